@@ -4,7 +4,7 @@ use crate::reached::{Reached, next_waiting, reach};
 use crate::thresholds::thresholds_of;
 use f77_check::Checked;
 use f77_equivalence::start::starting_entry;
-use f77_facts::entries::Entry;
+use f77_facts::Entry;
 use f77_symbolic::cuts::cuts_of;
 use f77_symbolic::visiting::entries_behind;
 use std::alloc::{AllocError, Global};
@@ -27,8 +27,7 @@ fn cuts_reached(alloc: Global, checked: &Checked) -> Result<Option<Vec<Reached>>
         let Some(entry) = next_waiting(&mut list) else {
             return Ok(Some(list));
         };
-        let moves = entries_behind(alloc, statements, &cuts, entry, &mut left)?;
-        let Some(moves) = moves else {
+        let Some(moves) = entries_behind(alloc, statements, &cuts, entry, &mut left)? else {
             return Ok(None);
         };
         for entry in moves {

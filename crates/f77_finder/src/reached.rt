@@ -2,10 +2,9 @@
 
 use crate::widening::join;
 use f77_code::Place;
-use f77_facts::entries::Entry;
-use f77_facts::facts::{is_empty, is_inside};
-use f77_facts::loops::is_loops_inside;
+use f77_facts::{Entry, are_covered, is_empty};
 use std::alloc::AllocError;
+use std::slice::from_ref;
 
 /// So many times an entry takes in another one before its bounds are widened to thresholds, and to the ends of the
 /// range.
@@ -26,9 +25,7 @@ pub(crate) struct Reached {
 impl Reached {
     /// Control comes to the cut by another way.
     fn take_in(&mut self, entry: &Entry, thresholds: &[i64]) {
-        if is_inside(&entry.facts, &self.entry.facts)
-            && is_loops_inside(&entry.loops, &self.entry.loops)
-        {
+        if are_covered(from_ref(&self.entry), from_ref(entry)) {
             return;
         }
         let thresholds = match self.joins {
@@ -51,18 +48,14 @@ pub(crate) fn reach(
     if is_empty(&entry.facts) {
         return Ok(());
     }
-    if let Some(reached) = list
-        .iter_mut()
-        .find(|reached| reached.entry.place == entry.place)
-    {
-        reached.take_in(&entry, thresholds);
-        return Ok(());
+    match list.iter_mut().find(|it| it.entry.place == entry.place) {
+        Some(reached) => reached.take_in(&entry, thresholds),
+        None => list.push(Reached {
+            entry,
+            joins: 0,
+            waits: true,
+        })?,
     }
-    list.push(Reached {
-        entry,
-        joins: 0,
-        waits: true,
-    })?;
     Ok(())
 }
 

@@ -1,10 +1,8 @@
 //! Joins what is known where control comes to a place with what is known of the place. Bounds move no further than they
 //! must; or, where there are thresholds, to the next of these, and else to the end of the range.
 
-use f77_facts::entries::Entry;
-use f77_facts::facts::{Fact, numbers_of};
-use f77_facts::loops::LoopFact;
-use f77_terms::ranges::{Range, hull, is_empty};
+use f77_facts::{Entry, Fact, LoopFact, numbers_of};
+use f77_terms::{Range, hull, is_empty};
 use f77_tree::Kind;
 
 /// More passes than a DO may have, and so few that sums of such numbers are told still: what DOs have left is kept only
@@ -16,20 +14,12 @@ fn widened(old: Range, other: Range, thresholds: Option<&[i64]>, ends: Range) ->
     let Range { mut low, mut high } = hull(old, other);
     if let (Some(thresholds), false) = (thresholds, is_empty(old)) {
         if low < old.low {
-            low = thresholds
-                .iter()
-                .copied()
-                .filter(|it| *it <= low)
-                .max()
-                .unwrap_or(ends.low);
+            let below = thresholds.iter().filter(|it| **it <= low).max();
+            low = *below.unwrap_or(&ends.low);
         }
         if old.high < high {
-            high = thresholds
-                .iter()
-                .copied()
-                .filter(|it| *it >= high)
-                .min()
-                .unwrap_or(ends.high);
+            let above = thresholds.iter().filter(|it| **it >= high).min();
+            high = *above.unwrap_or(&ends.high);
         }
     }
     Range { low, high }
@@ -38,9 +28,9 @@ fn widened(old: Range, other: Range, thresholds: Option<&[i64]>, ends: Range) ->
 /// The old fact or the other one, of the same slot.
 fn joined_fact(old: Fact, other: Fact, thresholds: Option<&[i64]>) -> Fact {
     Fact {
-        kind: old.kind,
         may_lack: old.may_lack || other.may_lack,
         range: widened(old.range, other.range, thresholds, numbers_of(old.kind)),
+        ..old
     }
 }
 

@@ -1,6 +1,6 @@
 -- What bounds say of what slots hold, and of what DOs have left.
 use Rattle.f77_symbolic.proofs.Common.{arith, ◌≡◌, ◌<◌, ◌+◌, ◌++◌, ◌∷◌, [], ◌∙◌, ℕ, List, length, take, get_or, length-append}
-use Rattle.f77_symbolic.proofs.Common.{Option, Some, sym, ap, subst, ℤ, pos, negsuc, ◌≤ℤ◌, option_map, slice_get, slice_set}
+use Rattle.f77_symbolic.proofs.Common.{Option, Some, None, false, sym, ap, subst, ℤ, pos, negsuc, ◌≤ℤ◌, option_map, slice_get, slice_set}
 use Rattle.f77_symbolic.proofs.Common.{option_and_then, int_max, clamps, ints, map-append, take_more, slice_get_within, Value, held_in, TurnList}
 use Rattle.f77_symbolic.proofs.Common.{turn_at, Turn, Fact, AreIn, SuitsFact, number_of, AreLeft, SuitsTurn, IsIn, Valuation, SymbolicTurn, AreNumbers}
 use Rattle.f77_symbolic.proofs.Common.{presence_of, Start, passes_left, turn_of, turns_of}
@@ -9,27 +9,39 @@ use Rattle.f77_facts.specs.declared.loops.LoopFact.{LoopFact}
 use Rattle.f77_facts.proofs.Slots.{set_one}
 use Rattle.f77_terms.specs.declared.ranges.Range.{Range}
 
+-- what suits a fact, and has a number that is in a range too, or is a value
+narrowed : (fact : Fact) (range : Range) (cell : Option Value) → SuitsFact fact cell → (IsIn fact.range (number_of cell) → IsIn range (number_of cell))
+    → SuitsFact (record { kind = fact.kind; may_lack = fact.may_lack; range = range }) cell
+narrowed fact range (Some value) suits inside = (suits.0, inside suits.1)
+narrowed fact range None suits inside = suits
+
+present : (fact : Fact) (cell : Option Value) → SuitsFact fact cell → pos 1 ≤ℤ presence_of cell
+    → SuitsFact (record { kind = fact.kind; may_lack = false; range = fact.range }) cell
+present fact (Some value) suits one = suits
+present fact None suits one = absurd (omega (arith, ints, one))
+
 -- a slot is given another fact that suits it
-module _ (facts : List Fact) (slot : ℕ) (old new : Fact) (start : Start) (there : slice_get facts slot ≡ Some old) (known : AreIn facts start.cells)
+module _ (facts : List Fact) (slot : ℕ) (fact : Fact) (start : Start) (there : slice_get facts slot ≡ Some fact) (known : AreIn facts start.cells)
     (are : AreNumbers start) where
-  suits_old : SuitsFact old (held_in start.cells slot)
-  suits_old = known.each slot old there
+  suits : SuitsFact fact (held_in start.cells slot)
+  suits = known.each slot fact there
 
   within : slot < length start.cells
-  within = omega (arith, slice_get_within facts slot old there, known.count)
+  within = omega (arith, slice_get_within facts slot fact there, known.count)
 
   -- that of a slot whose number is in a range
-  pub value_set : (range : Range) → ((cell : Option Value) → SuitsFact old cell → IsIn range (number_of cell) → SuitsFact new cell)
-      → IsIn range (start.numbers slot) → AreIn (slice_set facts slot new) start.cells
-  value_set range suits inside =
-      set_one facts start.cells slot new known (suits (held_in start.cells slot) suits_old (subst (IsIn range) (are.held slot within) inside))
+  pub value_set : (range both : Range) → ((x : ℤ) → IsIn fact.range x → IsIn range x → IsIn both x) → IsIn range (start.numbers slot)
+      → AreIn (slice_set facts slot (record { kind = fact.kind; may_lack = fact.may_lack; range = both })) start.cells
+  value_set range both common inside =
+      set_one facts start.cells slot _ known
+      (narrowed fact both (held_in start.cells slot) suits (λ old. common _ old (subst (IsIn range) (are.held slot within) inside)))
 
   -- that of a slot that holds a value
-  pub present_set : ((cell : Option Value) → SuitsFact old cell → pos 1 ≤ℤ presence_of cell → SuitsFact new cell)
-      → pos 1 ≤ℤ start.numbers (length facts + slot) → AreIn (slice_set facts slot new) start.cells
-  present_set suits one =
+  pub present_set : pos 1 ≤ℤ start.numbers (length facts + slot)
+      → AreIn (slice_set facts slot (record { kind = fact.kind; may_lack = false; range = fact.range })) start.cells
+  present_set one =
       let number = ap (λ n. start.numbers (n + slot)) (sym known.count) ∙ are.present slot within in
-      set_one facts start.cells slot new known (suits (held_in start.cells slot) suits_old (subst (λ z. pos 1 ≤ℤ z) number one))
+      set_one facts start.cells slot _ known (present fact (held_in start.cells slot) suits (subst (λ z. pos 1 ≤ℤ z) number one))
 
 -- so many passes are left
 pub left_max : (z : ℤ) → pos (passes_left z) ≡ int_max z (pos 0)

@@ -9,10 +9,10 @@ pub use Rattle.std.proofs.lemmas.Bool.{cases_eq, ltb-true, lt-ltb, false_from_ne
 pub use Rattle.std.proofs.lemmas.Int.{ints, to_z-of_z, clamps, rem_below, quot-rem}
 pub use Rattle.std.proofs.lemmas.List.{take_all, take_more, map-append, length-set, set-set, set_comm, get_or_append_left, length_push, map-set, drop_more}
 pub use Rattle.std.proofs.lemmas.List.{drop_all}
-pub use Rattle.std.proofs.lemmas.List.Elements.{All-pop, All-push, All-more, All-weaker, All-nil, All-contains, All-contains_itself}
+pub use Rattle.std.proofs.lemmas.List.Elements.{All-pop, All-push, All-more, All-weaker, All-nil, All-contains, All-contains_itself, same_from_all_zip}
 pub use Rattle.std.proofs.lemmas.Option.{slice_get_within, get_or_from_slice_get, slice_get_past, slice_get-get_or, IfSome_then}
 pub use Rattle.std.specs.Int.{int_min, int_max}
-pub use Rattle.std.specs.List.{list_any, find, remove, zip, slice_index_or}
+pub use Rattle.std.specs.List.{AllZip, list_any, find, remove, zip, slice_index_or}
 pub use Rattle.std.specs.Option.{option_and_then, SomeIff, option_map_or}
 pub use Rattle.std.specs.Result.{result_ok, OkIff}
 pub use Rattle.f77_actions.specs.Number.{in_range, is_below, is_same, without_sign, trip_count, exact_power, fits, quotient, modulus, power, negated}
@@ -37,16 +37,15 @@ pub use Rattle.f77_facts.specs.declared.facts.Fact.{Fact}
 pub use Rattle.f77_program.specs.Program.{line_of, LineFields}
 pub use Rattle.f77_symbolic.specs.{cells_of, turns_of, slot_of, Interprets, Start, turn_of, IsInside, AreInside, content_of, passes_left, state_of}
 pub use Rattle.f77_symbolic.specs.{AreTurnNumbers, machine, IsOfEntry, is_same_place, IsTourOf, presence_of, IsFirst, AreNumbers, End, EndsBy, ReachesIn}
-pub use Rattle.f77_symbolic.specs.{AreVisits, IsTour, LeadsTo, IsReachable, IsVisitNoted, IsVisit, EquivalentWhereFollowed, EndAlike, IsAtSite, is_cut_in}
+pub use Rattle.f77_symbolic.specs.{AreVisits, IsToured, LeadsTo, IsReachable, IsVisitNoted, IsVisit, EquivalentWhereFollowed, EndAlike, IsAtSite, is_cut_in}
 pub use Rattle.f77_symbolic.specs.{Machine, Pairing, FollowsFor, IsEarlier, Under, KeysFollow, LeadsUncut}
 unfoldable pub use Rattle.f77_symbolic.specs.{together, FollowsByKeys}
 pub use Rattle.f77_symbolic.specs.code.{StaysOn, Stepped, Answers, ReadsCell, Extends, AreExplored, IsSettled, HoldSameIn, IsReady, IsKnownAt, IsBehindBy}
 pub use Rattle.f77_symbolic.specs.code.{HavePairs, IsSlotOf, FollowsAt, FollowsThere, FollowsVisit, HasItem, IsEndOf, RestsOn, IsWithin}
-pub use Rattle.f77_symbolic.specs.code.{IsDivision, HaveDummies, GoesOnIfHeld, GoesTo, left_of, move_with, IsExplored, IsMet, IsMetOrExplored}
-pub use Rattle.f77_symbolic.specs.code.{AlwaysTells, EndsSo, Follows, GivesWay, IsRoomLeft, IsThere, IsPartOf, Whichever}
+pub use Rattle.f77_symbolic.specs.code.{IsDivision, HaveDummies, GoesOnIfHeld, GoesTo, IsExplored, IsMet, IsMetOrExplored}
+pub use Rattle.f77_symbolic.specs.code.{AlwaysTells, ComesToEnd, Follows, GivesWay, IsRoomLeft, IsThere, IsPartOf, Whichever}
 pub use Rattle.f77_symbolic.specs.declared.evaluator.Atoms.{Atoms}
 pub use Rattle.f77_symbolic.specs.declared.evaluator.Evaluator.{Evaluator}
-pub use Rattle.f77_symbolic.specs.declared.halt.Split.{Split}
 pub use Rattle.f77_symbolic.specs.declared.memory.Location.{Location}
 pub use Rattle.f77_symbolic.specs.declared.memory.Symbolic.{Symbolic}
 pub use Rattle.f77_symbolic.specs.declared.memory.Write.{Write}
@@ -64,4 +63,5 @@ pub use Rattle.f77_terms.specs.Ranges.{IsIn, AreKnown, LiesBetween}
 pub use Rattle.f77_terms.specs.Atoms.{function_value}
 pub use Rattle.f77_terms.specs.Terms.{sum_value, Valuation, part_value, parts_value}
 pub use Rattle.f77_terms.specs.declared.paths.Path.{Path}
+pub use Rattle.f77_terms.specs.declared.terms.Term.{Term}
 pub use mir.Val.{bool_byte}

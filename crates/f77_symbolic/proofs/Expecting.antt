@@ -1,5 +1,5 @@
 -- What is answered where it is expected that there is no fault.
-use Rattle.f77_symbolic.proofs.Common.{arith, ◌≡◌, ◌≢◌, ◌⊎◌, inl, inr, zero, suc, Bool, true, false, refl, subst, ℤ, pos, negsuc, ◌+ℤ◌, ◌*ℤ◌, ◌≤ℤ◌, ◌<ℤ◌}
+use Rattle.f77_symbolic.proofs.Common.{arith, ◌≡◌, ◌≢◌, ◌⊎◌, inl, inr, zero, suc, Bool, true, false, refl, subst, ℤ, pos, negsuc, ◌≤ℤ◌, ◌<ℤ◌}
 use Rattle.f77_symbolic.proofs.Common.{if◌then◌else◌, int_div, int_rem, Result, Ok, Err, Option, IfOk, IfSome, result_ok, ints, Fault, fits}
 use Rattle.f77_symbolic.proofs.Common.{in_range, quotient, modulus, pushed, Holds, Valuation, Evaluator, Answers, StaysOn}
 use Rattle.std.specs.Bool.{Decides}
@@ -49,22 +49,17 @@ tested_answers v old mid new true r fault C P decides expected next =
 tested_answers v old mid new false r fault C P decides expected next = faults v old mid P expected (λ p. let yes = decides.1 p in absurd (cc (yes)))
 
 -- INTEGER holds the number
-abbrev pub IsLow : ℤ → Type 0
-IsLow z = (negsuc 2147483647 +ℤ negsuc 0 *ℤ z) ≤ℤ pos 0
+abbrev pub IsInteger : ℤ → Type 0
+IsInteger z = (negsuc 2147483647 ≤ℤ z) × (z ≤ℤ pos 2147483647)
 
-abbrev pub IsHigh : ℤ → Type 0
-IsHigh z = (negsuc 2147483646 +ℤ pos 1 *ℤ z) ≤ℤ pos 0
-
-fits_decides : (z : ℤ) → Decides (fits z) (IsLow z × IsHigh z)
+fits_decides : (z : ℤ) → Decides (fits z) (IsInteger z)
 fits_decides (pos n) = grind (arith, ints, nat_tests)
 fits_decides (negsuc n) = grind (arith, ints, nat_tests)
 
 -- a number that is expected to be in range
-pub ranged_answers : (v : Valuation) (old mid new : Evaluator) (z : ℤ) → Expected v old mid (IsLow z) → (Holds v mid.path → Expected v mid new (IsHigh z))
-    → Answers v old new (in_range z) (λ x. z ≡ x)
-ranged_answers v old mid new z low high =
-    tested_answers v old new new (fits z) (Ok z) Overflow (λ x. z ≡ x) (IsLow z × IsHigh z) (fits_decides z) (both_expected v old mid new (IsLow z) (IsHigh z) low high)
-    (λ within holds. (stays_same v new holds, refl))
+pub ranged_answers : (v : Valuation) (old new : Evaluator) (z : ℤ) → Expected v old new (IsInteger z) → Answers v old new (in_range z) (λ x. z ≡ x)
+ranged_answers v old new z expected =
+    tested_answers v old new new (fits z) (Ok z) Overflow (λ x. z ≡ x) (IsInteger z) (fits_decides z) expected (λ within holds. (stays_same v new holds, refl))
 
 -- a number that is expected not to be 0
 apart_answers : (v : Valuation) (old mid new : Evaluator) (b : ℤ) (r : ℤ → Result ℤ Fault) (fault : Fault) (C : ℤ → Type 0) → r (pos 0) ≡ Err fault

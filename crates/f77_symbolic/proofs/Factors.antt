@@ -1,7 +1,6 @@
 -- Powers with an exponent above 0.
-use Rattle.f77_symbolic.proofs.Common.{arith, ◌≡◌, ℕ, zero, suc, refl, sym, ap, subst, ◌∙◌, ℤ, pos, negsuc, ◌+ℤ◌, ◌*ℤ◌, ◌≤ℤ◌, ints, zero-*ℤ, exact_power, in_range}
+use Rattle.f77_symbolic.proofs.Common.{arith, ◌≡◌, ℕ, zero, suc, refl, sym, ap, subst, ◌∙◌, ℤ, pos, negsuc, ◌+ℤ◌, ◌*ℤ◌, ◌≤ℤ◌, ints, zero-*ℤ, exact_power, in_range, Term}
 use Rattle.f77_symbolic.proofs.Common.{power, Evaluator, Extends, AlwaysTells, Answers, StaysOn, Holds, Valuation, sum_value}
-use Rattle.f77_terms.specs.declared.terms.Term.{Term}
 use Rattle.f77_symbolic.proofs.Answering.{answers_after, stays_then}
 
 power_above : (a : ℤ) (n : ℕ) → power a (pos (suc n)) ≡ in_range (exact_power a (suc n))

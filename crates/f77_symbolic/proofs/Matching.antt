@@ -1,31 +1,11 @@
 -- When two sides hold the same.
-use Rattle.f77_symbolic.proofs.Common.{arith, ◌≡◌, ◌≢◌, ◌⊎◌, inl, inr, ◌<◌, ◌+◌, ℕ, suc, false, List, [], ◌∷◌, length, get_or, Option, Some, None, refl, sym}
-use Rattle.f77_symbolic.proofs.Common.{subst, ◌∙◌, below_more, All, slice_get, slice_set, option_map, get_or_from_slice_get, Value}
+use Rattle.f77_symbolic.proofs.Common.{arith, ◌≡◌, ◌≢◌, ◌⊎◌, inl, inr, ◌<◌, ℕ, suc, false, List, [], ◌∷◌, length, Option, Some, None, refl, sym}
+use Rattle.f77_symbolic.proofs.Common.{subst, ap, ◌∙◌, All, get_or, slice_get, slice_get-get_or, slice_set, option_and_then, option_map, Value}
+use Rattle.std.proofs.lemmas.List.{ext_get_or}
 use Rattle.f77_symbolic.proofs.Common.{held_in, Cells, cases_eq, Valuation, Evaluator, Symbolic, Write, SymbolicTurn, Slots, ReadsCell, StaysOn, HoldSameIn}
 use Rattle.f77_symbolic.proofs.Common.{cells_of, content_of, slot_of, turn_of, turns_of}
 use Rattle.f77_code.proofs.Written.{at_other}
 use Rattle.f77_symbolic.proofs.Written.{cells_length}
-
--- of cells with which others start
-held_first : (cell other : Option Value) (cells others : Cells) → ((k : ℕ) → held_in (other ∷ others) k ≡ held_in (cell ∷ cells) k) → other ≡ cell
-held_first cell other cells others same = same 0
-
--- so many cells that hold the same in each slot are the same
-pub same_cells : (cells others : Cells) → length others ≡ length cells → ((k : ℕ) → held_in others k ≡ held_in cells k) → others ≡ cells
-same_cells [] [] count same = refl
-same_cells [] (other ∷ others) count same = absurd (cc (count))
-same_cells (cell ∷ cells) [] count same = absurd (cc (count))
-same_cells (cell ∷ cells) (other ∷ others) count same =
-    let first : other ≡ cell = held_first cell other cells others same in
-    let rest : others ≡ cells = same_cells cells others (cc (count)) (λ k. same (suc k)) in
-    λ i. first i ∷ rest i
-
--- what is so of those before, and of one more
-pub all_more : {X : Type 0} (P : X → Type 0) (xs : List X) (i : ℕ) (x : X) → slice_get xs i ≡ Some x → ((k : ℕ) (d : X) → k < i → P (get_or xs k d)) → P x
-    → (k : ℕ) (d : X) → k < i + 1 → P (get_or xs k d)
-all_more {X} P xs i x is before here k d less =
-    below_more (λ k. (d : X) → P (get_or xs k d)) i (λ j below d. before j d below)
-    (λ d. subst P (sym (get_or_from_slice_get xs i x d is)) here) k less d
 
 -- each turn is the same, so all are
 pub same_turns : (v : Valuation) (a b : List (Option SymbolicTurn)) → length b ≡ length a
@@ -74,8 +54,12 @@ same_everywhere only start v left right own other slot =
 pub same_cells_of : (start : Cells) (v : Valuation) (left right : List Write)
     → ((slot : ℕ) → HoldSameIn None (cells_of start v left) (cells_of start v right) slot) → cells_of start v right ≡ cells_of start v left
 same_cells_of start v left right same =
-    same_cells (cells_of start v left) (cells_of start v right) (cells_length v start right ∙ sym (cells_length v start left))
-    (λ k. same k tt)
+    let count : length (cells_of start v right) ≡ length (cells_of start v left) = cells_length v start right ∙ sym (cells_length v start left) in
+    ext_get_or None (cells_of start v right) (cells_of start v left) count
+    (λ k below. sym (held (cells_of start v right) k below) ∙ same k tt ∙ held (cells_of start v left) k (omega (arith, below, count)))
+  where
+    held : (cells : Cells) (k : ℕ) → k < length cells → held_in cells k ≡ get_or cells k None
+    held cells k below = ap (option_and_then (λ cell. cell)) (slice_get-get_or cells k None below)
 
 -- what is read where no fault is assumed away
 pub read_so : (v : Valuation) (old new : Evaluator) (cell : Option Value) (value : Symbolic) → old.own ≡ false → ReadsCell v old new cell value

@@ -2,8 +2,10 @@
 use Rattle.f77_symbolic.proofs.Common.{arith, ◌≡◌, inl, inr, ◌<◌, ◌+◌, ◌-◌, ℕ, List, length, take, Option, Some, None, true, false, refl, sym}
 use Rattle.f77_symbolic.proofs.Common.{ap, slice_set, ◌∙◌, ℤ, pos, negsuc, ◌≤ℤ◌, ◌<ℤ◌, slice_get, ints, slice_get_within, get_or_from_slice_get, Value}
 use Rattle.f77_symbolic.proofs.Common.{held_in, Cells, Fact, Implies, SuitsFact, slot_behind, Holds, IsIn, Valuation, Evaluator, Symbolic, Write, presence_of}
-use Rattle.f77_symbolic.proofs.Common.{cells_of, slot_of, content_of, GoesOnIfHeld, ReadsCell, StaysOn, IsKnownAt}
+use Rattle.f77_symbolic.proofs.Common.{cells_of, slot_of, content_of, GoesOnIfHeld, ReadsCell, StaysOn, IsKnownAt, AllZip, same_from_all_zip, Term, parts_value, sum_value}
 use Rattle.f77_code.proofs.Written.{at_other, at_same}
+use Rattle.f77_symbolic.specs.contracts.memory.SymbolicClone.TheImpl as clones
+use Rattle.f77_symbolic.specs.declared.memory.Symbolic.TheVariants as symbolic
 use Rattle.f77_symbolic.proofs.Answering.{stays_same, stays_then}
 use Rattle.f77_symbolic.proofs.Written.{cells_length, cells_next}
 
@@ -21,6 +23,16 @@ module _ (v : Valuation) (old mid : Evaluator) where
       let next = found x refl stays.holds in
       inl (stays_then v old mid new stays next.0, sym next.1)
   held_read new value None own found = inr (own, refl)
+
+-- a copy of a term has its value, and one of what a slot holds is the same
+same_sum : (v : Valuation) (x y : Term) → y.constant ≡ x.constant → AllZip (λ a b. b ≡ a) x.parts.items y.parts.items → sum_value v y ≡ sum_value v x
+same_sum v x y constant zip = let parts = ap (parts_value v) (same_from_all_zip _ x.parts.items y.parts.items zip (λ a b same. same)) in omega (arith, ints, constant, parts)
+
+pub content_copied : (v : Valuation) (a b : Symbolic) → clones.by_variants a b → content_of v b ≡ content_of v a
+content_copied v (symbolic.Number x) (symbolic.Number y) is = rw (same_sum v x y is.0 is.1.0) refl
+content_copied v (symbolic.Number x) (symbolic.Truth y) is = absurd is
+content_copied v (symbolic.Truth x) (symbolic.Number y) is = absurd is
+content_copied v (symbolic.Truth x) (symbolic.Truth y) is = rw (same_sum v x y is.0 is.1.0) refl
 
 -- none is lacking
 pub goes_on_always : (v : Valuation) (old : Evaluator) (fact : Fact) (cell : Option Value) → Holds v old.path → fact.may_lack ≡ false → SuitsFact fact cell

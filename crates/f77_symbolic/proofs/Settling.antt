@@ -1,7 +1,7 @@
 -- How a pair rests on the next one.
 use Rattle.f77_symbolic.proofs.Common.{arith, ◌≡◌, ℕ, zero, suc, Bool, true, false, List, Option, Some, None, refl, sym, subst, ap, ◌∙◌, pos, negsuc, ◌+ℤ◌}
 use Rattle.f77_symbolic.proofs.Common.{◌≤ℤ◌, ints, Resolved, CheckedFields, Cells, State, Move, Goes, Ends, moved, HoldAlike, IsEnding, Holds, Valuation, Path}
-use Rattle.f77_symbolic.proofs.Common.{Pair, Side, Step, End, together, FollowsByKeys, AreInside, Start, cells_of, state_of, EndsSo, Follows}
+use Rattle.f77_symbolic.proofs.Common.{Pair, Side, Step, End, together, FollowsByKeys, AreInside, Start, cells_of, state_of, Follows}
 use Rattle.f77_symbolic.proofs.Common.{IsRoomLeft, IsReady, IsSettled, IsThere, IsEndOf, Stepped}
 use Rattle.f77_actions.specs.declared.finish.Finish.{Finish}
 use Rattle.f77_actions.specs.declared.finish.Finish.TheVariants.{Returned, Stopped, Failed, StepLimit}
@@ -43,6 +43,10 @@ ended start v path before after made finish (Some (Ends other cells)) is it =
     let at = end_of start v false path before after made other cells it (λ e. absurd (cc (e))) in
     (at.1, ap (λ f. Some (Ends f cells)) (same_end made finish other is at.0) ∙ ap (λ c. Some (Ends finish c)) at.2)
 
+-- a copy of a side is the same
+pub side_same : {side copy : Side} → (copy.place ≡ side.place) × ((copy.writes ≡ side.writes) × (copy.turns ≡ side.turns)) → copy ≡ side
+side_same (place, (writes, turns)) = λ i. record { place = place i; writes = writes i; turns = turns i }
+
 pub inside_too : (v : Valuation) {side other : Side} → other ≡ side → AreInside v side.writes.items → AreInside v other.writes.items
 inside_too v same = subst (λ (side : Side). AreInside v side.writes.items) (sym same)
 
@@ -61,11 +65,15 @@ module _ (spare : ℕ) (checked : CheckedFields) (change : Change) (start : Star
       (subst (λ side. FollowsSides pair.fresh room side pair.right) one
       (settled.follows room has (record { holds = holds; left = inside_too v one first; right = inside_too v other second }))))
 
+  -- the changed program ends so, and the dummy arguments hold the same
+  abbrev EndsSo : Finish → Pair → Type 0
+  EndsSo finish pair = (others : Cells) × (moved change.statements.items (state_of start.cells v pair.right) ≡ Some (Ends finish others))
+      × HoldAlike checked (cells_of start.cells v pair.left.writes.items) others
+
   -- the program makes a step: both end alike, or it follows from where that leads
   pub own_follows : (pair : Pair) (path : Path) (after : Side) (made : Step) (list : List Resolved) → IsReady checked change → list ≡ change.own.items
       → (IsThere v pair → Stepped start.cells v true path pair.left after made (moved list (state_of start.cells v pair.left)))
-      → ((finish : Finish) → IsEndOf made finish → Holds v path → AreInside v pair.left.writes.items → AreInside v pair.right.writes.items
-      → EndsSo checked change finish start v pair)
+      → ((finish : Finish) → IsEndOf made finish → IsThere v pair → EndsSo finish pair)
       → ((room : ℕ) → IsRoomLeft spare pair.credit room → made ≡ step.Moves → Holds v path → AreInside v after.writes.items
       → AreInside v pair.right.writes.items → FollowsSides false (suc room) after pair.right)
       → Follows spare checked change start v pair
@@ -78,7 +86,7 @@ module _ (spare : ℕ) (checked : CheckedFields) (change : Change) (start : Star
       (λ e wanted ends.
       let at = end_of start.cells v true path pair.left after made e.finish e.cells
       (subst (λ m. Stepped start.cells v true path pair.left after made m) ends it) (λ own. wanted) in
-      let other = alike e.finish at.0 at.1 there.left there.right in
+      let other = alike e.finish at.0 there in
       (record { finish = e.finish; cells = other.0 }, other.1, (refl, subst (λ c. HoldAlike checked c other.0) (sym at.2) other.2)))
       (λ b goes.
       let to = subst (λ m. Stepped start.cells v true path pair.left after made m) goes it in

@@ -1,13 +1,12 @@
 -- Steps, by what statements mean and where control goes.
-use Rattle.f77_symbolic.proofs.Common.{arith, ◌≡◌, ◌≢◌, inl, inr, ◌+◌, ℕ, zero, suc, Bool, true, false, not, List, length, refl, sym, ap, ◌∙◌, subst}
-use Rattle.f77_symbolic.proofs.Common.{Option, Some, None, ℤ, pos, negsuc, of_z, to_z, w64, if◌then◌else◌, Result, Ok, Err, IfOk}
+use Rattle.f77_symbolic.proofs.Common.{arith, ◌≡◌, ◌≢◌, inl, inr, ◌+◌, ℕ, zero, suc, Bool, true, false, not, List, length, refl, sym, ap, ◌∙◌, subst, Term}
+use Rattle.f77_symbolic.proofs.Common.{Option, Some, None, ℤ, pos, negsuc, of_z, to_z, w64, if◌then◌else◌, Result}
 use Rattle.f77_symbolic.proofs.Common.{slice_get, slice_set, ints, slice_get_past, is_same, is_below}
-use Rattle.f77_symbolic.proofs.Common.{trip_count, whole, Fault, Resolved, Value, Cells, TurnList, Move, Goes, Ends, begun, go_on}
+use Rattle.f77_symbolic.proofs.Common.{trip_count, whole, Fault, Resolved, Value, Cells, Turn, TurnList, Move, Goes, Ends, begun, go_on}
 use Rattle.f77_symbolic.proofs.Common.{passing, passing_at, used, Holds, Valuation, Path}
 use Rattle.f77_symbolic.proofs.Common.{Evaluator, Extends, Location, Side, Step, Answers, HasItem, ReadsCell, GoesTo, Stepped}
 use Rattle.f77_symbolic.proofs.Common.{Symbolic, AreInside, IsInside, cells_of, content_of, slot_of, state_of, sum_value, turns_of, bool_byte}
 use Rattle.f77_symbolic.specs.code.{AlwaysSteps, Yields, YieldsNumber}
-use Rattle.f77_terms.specs.declared.terms.Term.{Term}
 use Rattle.std.proofs.lemmas.Bool.Decides.{nat_tests}
 use Rattle.std.proofs.Math.Numerals.{add-one}
 use Rattle.f77_actions.specs.declared.action.Jump.{Jump}
@@ -16,7 +15,7 @@ use Rattle.f77_actions.specs.declared.value.Value.TheVariants as held
 use Rattle.f77_code.specs.Choice.{by_sign, item_chosen}
 use Rattle.f77_symbolic.specs.declared.sides.Step.TheVariants as step
 use Rattle.f77_symbolic.proofs.Answering.{answers_at, known_steps, used_steps}
-use Rattle.f77_symbolic.proofs.Extending.{extends_then}
+use Rattle.f77_symbolic.proofs.Extending.{extends_same, extends_then}
 
 module _ (start : Cells) (v : Valuation) (own : Bool) (path : Path) (before after : Side) (made : Step) where
   -- a move to the state of the side behind it
@@ -57,6 +56,16 @@ yield_steps old mid new before after made meaning value f extends yields next st
     known_steps start.cells v old mid new before after made (meaning cells) cells (λ x. f v x cells (turns_of v before.turns.items)) (value v)
     (yields start v (extends.back start v there) holds inside) (λ on. next start v there on inside)
 
+-- what an expression yields tells where control goes
+pub yield_goes : {A : Type 0} (old new : Evaluator) (before after : Side) (made : Step) (meaning : Cells → Result A Fault) (value : Valuation → A)
+    (chosen : A → Cells → TurnList → Move) (move : Cells → TurnList → Move) → Yields old new before.writes.items meaning (λ v x. value v ≡ x)
+    → ((v : Valuation) → GoesTo v before after made move)
+    → ((v : Valuation) → Holds v new.path → (cells : Cells) (turns : TurnList) → chosen (value v) cells turns ≡ move cells turns)
+    → AlwaysSteps old new before after made (λ v cells turns. Some (used (meaning cells) cells (λ x. chosen x cells turns)))
+yield_goes old new before after made meaning value chosen move yields goes same =
+    yield_steps old new new before after made meaning value (λ v. chosen) (extends_same new.atoms) yields
+    (goes_always new before after made move (λ v. chosen (value v)) goes same)
+
 -- so are three numbers
 pub begun_steps : (old one two three new : Evaluator) (before after : Side) (made : Step) (r s t : Cells → Result ℤ Fault) (a b c : Term)
     (from : ℤ → ℤ → ℤ → Cells → TurnList → Move) → Extends one.atoms two.atoms → Extends two.atoms three.atoms → Extends three.atoms new.atoms
@@ -96,11 +105,6 @@ assigned start v old mid new before side after made resolved location cells plac
     (λ holds. goes_stepped start v new.own new.path before after made side (λ cells turns. go_on resolved cells turns) _ goes holds (inside at.0)
     (ap (λ cells. go_on resolved cells (turns_of v side.turns.items)) (ap (λ k. slice_set cells k (Some (value a))) (sym at.1) ∙ sym (put at.0))))))
 
--- two claims of one result
-pub both_told : {A E : Type 0} (P Q : A → Type 0) (r : Result A E) → IfOk r P → IfOk r Q → IfOk r (λ x. P x × Q x)
-both_told P Q (Ok x) p q = (p, q)
-both_told P Q (Err e) p q = tt
-
 -- the item with a number
 pub item_there : (items : List Jump) (z : ℤ) (place : ℕ) (jump : Jump) → z ≡ pos (place + 1) → slice_get items place ≡ Some jump
     → item_chosen items z ≡ Some jump
@@ -118,10 +122,22 @@ sign_chosen (pos zero) a b c = refl
 sign_chosen (pos (suc n)) a b c = grind (arith, nat_tests)
 sign_chosen (negsuc n) a b c = refl
 
--- the statement at the end of a DO
-pub passing_there : (statements : List Resolved) (t d passes : ℕ) (step : ℤ) (cells : Cells) (turns : TurnList) (end : Resolved) → slice_get statements t ≡ Some end
-    → passing_at statements t d passes step cells turns ≡ passing end d passes step cells turns
-passing_there statements t d passes step cells turns end there = rw there refl
+-- a slot is written, what a DO has left is set, and control moves from its last statement
+pub advanced : (start : Cells) (v : Valuation) (own : Bool) (path : Path) (before written side after : Side) (made : Step) (variable : ℕ) (value : Value)
+    (statements : List Resolved) (t d passes : ℕ) (step : ℤ) (left : Option Turn) (end : Resolved) (move : Cells → TurnList → Move) → slice_get statements t ≡ Some end
+    → cells_of start v written.writes.items ≡ slice_set (cells_of start v before.writes.items) variable (Some value) → AreInside v written.writes.items
+    → written.turns ≡ before.turns → side.writes ≡ written.writes → turns_of v side.turns.items ≡ slice_set (turns_of v written.turns.items) d left
+    → ((cells : Cells) (turns : TurnList) → passing end d passes step cells turns ≡ move cells (slice_set turns d left)) → GoesTo v side after made move → Holds v path
+    → Stepped start v own path before after made
+    (Some (passing_at statements t d passes step (slice_set (cells_of start v before.writes.items) variable (Some value)) (turns_of v before.turns.items)))
+advanced start v own path before written side after made variable value statements t d passes step left end move there put inside same kept set passed goes holds =
+    let cells : cells_of start v side.writes.items ≡ slice_set (cells_of start v before.writes.items) variable (Some value) =
+    ap (λ writes. cells_of start v writes.items) kept ∙ put in
+    let turns : turns_of v side.turns.items ≡ slice_set (turns_of v before.turns.items) d left =
+    set ∙ ap (λ turns. slice_set (turns_of v turns.items) d left) same in
+    goes_stepped start v own path before after made side move _ goes holds (rw kept inside)
+    (rw there (passed _ _ ∙ ap (move (slice_set (cells_of start v before.writes.items) variable (Some value))) (sym turns)
+    ∙ ap (λ cells. move cells (turns_of v side.turns.items)) (sym cells)))
 
 -- a DO begins with a step that is not 0
 pub begun_some : (statements : List Resolved) (d variable t : ℕ) (a b c : ℤ) (cells : Cells) (turns : TurnList) → c ≢ pos 0

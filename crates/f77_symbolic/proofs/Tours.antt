@@ -1,7 +1,7 @@
 -- The tour of a program: its entries cover what is known wherever a walk from one of them comes to a cut.
 use Rattle.f77_symbolic.proofs.Common.{◌≡◌, ℕ, zero, suc, Bool, true, false, List, Some, refl, sym, subst, All, Any, list_any, Resolved, Place, State}
-use Rattle.f77_symbolic.proofs.Common.{◌<◌, ◌+◌, length, get_or, take, All-more, All-weaker}
-use Rattle.f77_symbolic.proofs.Common.{Goes, moved, Entry, Visits, machine, ReachesIn, AreVisits, IsOfEntry, IsTour, LeadsTo, is_cut_in, is_same_place}
+use Rattle.f77_symbolic.proofs.Common.{◌<◌, ◌+◌, length, get_or, take, All-contains, All-more, All-weaker, get_or_from_slice_get, slice_get_within}
+use Rattle.f77_symbolic.proofs.Common.{Goes, moved, Entry, Visits, machine, ReachesIn, AreVisits, IsOfEntry, IsToured, LeadsTo, is_cut_in, is_same_place}
 use Rattle.f77_facts.specs.Entries.{GrowsEntries, IsAmong}
 use Rattle.f77_symbolic.proofs.Walk.{leads_on}
 
@@ -12,12 +12,7 @@ all_next P Q xs i x below is more before here = All-more Q xs i x below (All-wea
 
 -- these are visits from the entry, and they lead into entries again
 abbrev pub IsWalked : List Resolved → List Place → List Entry → Entry → Visits → Type 0
-IsWalked statements places entries entry visits = AreVisits statements places entry visits × GrowsEntries visits.arrivals.items entries
-
--- there are such visits from the entry, if it is of these places
-abbrev pub IsToured : List Resolved → List Place → List Entry → List Visits → Entry → Type 0
-IsToured statements places entries each entry =
-    list_any (λ place. is_same_place place entry.place) places ≡ true → Any (IsWalked statements places entries entry) each
+IsWalked statements places entries entry visits = AreVisits statements places entry visits × GrowsEntries visits.walk.arrivals.items entries
 
 -- the state is one of an entry at a cut, or steps lead there from one with no cut on the way
 pub record IsOnTour (statements : List Resolved) (places : List Place) (entries : List Entry) (s : State) : Type 0 where
@@ -31,12 +26,14 @@ pub entry_of : (entries : List Entry) (s : State) (known : IsAmong entries s.pla
 entry_of entries s known = record { place = known.there; inside = known.inside; left = known.left }
 
 -- what is reached is on the tour
-module _ (statements : List Resolved) (places : List Place) (entries : List Entry) (each : List Visits) (tour : IsTour statements places entries each) where
+module _ (statements : List Resolved) (places : List Place) (entries : List Entry) (each : List Visits) (tour : All (IsToured statements places entries each) entries) where
   -- there are visits from the entry of a state at a cut
   pub walked : (s : State) (known : IsAmong entries s.place s.cells s.turns) → is_cut_in places s ≡ true
       → Any (IsWalked statements places entries known.entry) each
   walked s known cut =
-      tour known.number known.entry known.is (subst (λ p. list_any (λ other. is_same_place other p) places ≡ true) (sym known.there) cut)
+      All-contains (IsToured statements places entries each) entries known.entry tour
+      (known.number, slice_get_within entries known.number known.entry known.is, get_or_from_slice_get entries known.number known.entry known.entry known.is)
+      (subst (λ p. list_any (λ other. is_same_place other p) places ≡ true) (sym known.there) cut)
 
   onward : (s t : State) → IsOnTour statements places entries s → moved statements s ≡ Some (Goes t) → (c : Bool) → is_cut_in places t ≡ c
       → IsOnTour statements places entries t

@@ -11,7 +11,7 @@ pub use Rattle.f77_code.specs.declared.control.Place.{Place}
 pub use Rattle.f77_code.specs.declared.control.Turn.{Turn}
 pub use Rattle.f77_equivalence.specs.Alike.{site, AgreeBut, PassAlike}
 pub use Rattle.f77_equivalence.specs.Changed.{IsChange, HoldAlike, IsEnding}
-pub use Rattle.f77_equivalence.specs.Equivalent.{IsEquivalentWithin, IsEquivalent}
+pub use Rattle.f77_equivalence.specs.Equivalent.{IsEquivalentWithin}
 pub use Rattle.f77_equivalence.specs.Start.{HoldsStart, start_state}
 pub use Rattle.f77_facts.specs.Entries.{GrowsEntries, IsAmong}
 pub use Rattle.f77_facts.specs.Facts.{AreIn, SuitsFact, number_of, kind_of_value, Lies}
@@ -21,7 +21,6 @@ pub use Rattle.f77_program.specs.Program.{line_of, LineFields}
 pub use Rattle.f77_symbolic.specs.declared.change.Change.{Change}
 pub use Rattle.f77_symbolic.specs.declared.evaluator.Atoms.{Atoms}
 pub use Rattle.f77_symbolic.specs.declared.evaluator.Evaluator.{Evaluator}
-pub use Rattle.f77_symbolic.specs.declared.halt.Split.{Split}
 pub use Rattle.f77_symbolic.specs.declared.memory.Location.{Location}
 pub use Rattle.f77_symbolic.specs.declared.memory.Symbolic.{Symbolic}
 pub use Rattle.f77_symbolic.specs.declared.memory.Write.{Write}

@@ -1,10 +1,9 @@
 -- What a walk of the program alone visits.
-use Rattle.std.specs.Prelude.{◌≡◌, ◌+◌, ◌*◌, ◌==◌, ◌<◌, ℕ, pos, Bool, true, false, Any, List, Some, length, slice_get}
+use Rattle.std.specs.Prelude.{◌≡◌, ◌+◌, ◌*◌, ◌==◌, ◌<◌, ℕ, pos, Bool, true, false, All, Any, List, Some, length}
 use Rattle.f77_symbolic.specs.Prelude.{list_any, Resolved, Place, Turn, State, TurnList, Goes, moved, turn_at}
 use Rattle.f77_symbolic.specs.Prelude.{CheckedFields, HoldsStart, Entry, GrowsEntries, IsAmong, AreIn, Lies, AreLeft}
 use Rattle.f77_symbolic.specs.Prelude.{Holds, Valuation, Visit, Visits}
 use Rattle.f77_code.specs.declared.control.Place.TheVariants as place
-use Rattle.f77_symbolic.specs.declared.visiting.Tour.{Tour}
 use Rattle.f77_symbolic.specs.Machines.{machine}
 use Rattle.f77_symbolic.specs.Walk.{LeadsUncut}
 use Rattle.f77_symbolic.specs.Atoms.{Interprets}
@@ -51,29 +50,29 @@ pub record IsOfEntry (entry : Entry) (s : State) : Type 0 where
 -- and so is what is known of each state at a cut to which it comes then.
 pub record AreVisits (statements : List Resolved) (places : List Place) (entry : Entry)
     (visits : Visits) : Type 0 where
-  pub facts : Lies entry.facts.items visits.atoms.facts.items
+  pub facts : Lies entry.facts.items visits.known.atoms.facts.items
   pub noted : (first s : State) (n : ℕ) (start : Start) (v : Valuation) → start.cells ≡ first.cells
-      → Interprets visits.atoms start v
+      → Interprets visits.known.atoms start v
       → AreTurnNumbers (length entry.facts.items) (length statements) first.turns start
       → IsOfEntry entry first → LeadsTo statements places n first s
-      → IsVisitNoted visits.list.items start v s
+      → IsVisitNoted visits.walk.list.items start v s
   pub lands : (first s t : State) (n : ℕ)
       → IsOfEntry entry first → LeadsTo statements places n first s
       → moved statements s ≡ Some (Goes t) → is_cut_in places t ≡ true
-      → IsAmong visits.arrivals.items t.place t.cells t.turns
+      → IsAmong visits.walk.arrivals.items t.place t.cells t.turns
 
--- there are visits from each entry of these places, which lead into entries again
-abbrev pub IsTour : List Resolved → List Place → List Entry → List Visits → Type 0
-IsTour statements places entries each = (k : ℕ) (entry : Entry) → slice_get entries k ≡ Some entry
-    → list_any (λ place. is_same_place place entry.place) places ≡ true
+-- if the entry is of these places, there are visits from it, which lead into entries again
+abbrev pub IsToured : List Resolved → List Place → List Entry → List Visits → Entry → Type 0
+IsToured statements places entries each entry =
+    list_any (λ place. is_same_place place entry.place) places ≡ true
     → Any (λ visits. AreVisits statements places entry visits
-    × GrowsEntries visits.arrivals.items entries) each
+    × GrowsEntries visits.walk.arrivals.items entries) each
 
 -- a tour of a program, from entries that say what is known where runs start
-pub record IsTourOf (checked : CheckedFields) (tour : Tour) : Type 0 where
+pub record IsTourOf (checked : CheckedFields) (tour : List Visits) : Type 0 where
   pub places : List Place
   pub entries : List Entry
   pub starts : HoldsStart checked entries
   pub start :
       list_any (λ other. is_same_place other (place.Execute checked.start.entry)) places ≡ true
-  pub visits : IsTour checked.statements places entries tour.each.items
+  pub visits : All (IsToured checked.statements places entries tour) entries

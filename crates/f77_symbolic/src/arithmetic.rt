@@ -11,44 +11,23 @@ use f77_actions::Arithmetic;
 use f77_actions::number::power;
 use f77_terms::atoms::Function;
 use f77_terms::knowing::know_division;
-use f77_terms::terms::{Term, atom_term, constant_of, constant_term, copy, difference, sum};
+use f77_terms::terms::{Term, atom_term, constant_of, constant_term, copy};
 use std::alloc::Global;
-
-/// The least number that INTEGER holds.
-const LEAST: i64 = -2147483648;
-
-/// The greatest.
-const GREATEST: i64 = 2147483647;
+use std::cmp::Ordering;
 
 /// A power of more factors is given up.
 const MOST_FACTORS: i64 = 8;
 
-/// What a division gives, and what it leaves.
-#[derive(Drop)]
-pub struct Division {
-    pub quotient: Term,
-    pub remainder: Term,
-}
-
-/// The division of a constant by another.
-fn constant_division(alloc: Global, a: i64, b: i64) -> Option<Division>
+/// The quotient and the remainder of a constant and another.
+fn constant_division(alloc: Global, a: i64, b: i64) -> Option<(Term, Term)>
     ensures { IfSome result (λ division. (v : Valuation) → IsDivision v division a b) }
 {
     let quotient = a.checked_div(b)?;
     let remainder = a.checked_rem(b)?;
-    Some(Division {
-        quotient: constant_term(alloc, quotient),
-        remainder: constant_term(alloc, remainder),
-    })
-}
-
-/// There is a sign before the term's first part.
-fn is_turned(term: &Term) -> bool {
-    if term.parts.len() > 0 {
-        term.parts[0].factor < 0
-    } else {
-        term.constant < 0
-    }
+    Some((
+        constant_term(alloc, quotient),
+        constant_term(alloc, remainder),
+    ))
 }
 
 #[tactic(auto, using(crate::proofs::Extending::extending))]
@@ -59,8 +38,7 @@ impl Evaluator {
             (λ v. exact.in_range (sum_value v term))) }
         ensures extends { Extends self.old.atoms self.new.atoms }
     {
-        self.expect_below(-1, &term, LEAST)?;
-        self.expect_below(1, &term, -GREATEST)?;
+        self.expect_within(-2147483648, &term, 2147483647)?;
         Ok(term)
     }
 
@@ -92,23 +70,23 @@ impl Evaluator {
         self.plus(-1, &least, 0)
     }
 
-    /// The size of a number, which is that of its negative: the greater of both, of which the one without a sign comes
-    /// first.
+    /// The size of a number: the greater of it and its negative, of which the one without a sign comes first.
     pub(crate) fn size(&mut self, a: &Term) -> Result<Term, Halt>
         ensures tells { IfOk result (λ size. AlwaysTells self.old self.new
             (λ start v. sum_value v size ≡ exact.without_sign (sum_value v a.now))) }
         ensures extends { Extends self.old.atoms self.new.atoms }
     {
         let negative = self.plus(-1, a, 0)?;
-        if is_turned(a) {
+        let is_turned = a.parts.first().map_or(a.constant, |part| part.factor) < 0;
+        if is_turned {
             self.greater(&negative, a)
         } else {
             self.greater(a, &negative)
         }
     }
 
-    /// The division of a number by another, if it needs no atom.
-    fn plain_division(&self, a: &Term, b: &Term) -> Result<Option<Division>, Halt>
+    /// The quotient and the remainder, if they need no atom.
+    fn plain_division(&self, a: &Term, b: &Term) -> Result<Option<(Term, Term)>, Halt>
         ensures { IfOk result (λ made. IfSome made (λ division. (v : Valuation)
             → IsDivision v division (sum_value v a.now) (sum_value v b.now))) }
     {
@@ -121,14 +99,11 @@ impl Evaluator {
         if divisor != 1 && divisor != -1 {
             return Ok(None);
         }
-        Ok(Some(Division {
-            quotient: self.plus(divisor, a, 0)?,
-            remainder: constant_term(self.alloc, 0),
-        }))
+        Ok(Some((self.plus(divisor, a, 0)?, constant_term(self.alloc, 0))))
     }
 
-    /// The division of a number by another. Where it is by atoms, the path comes to know what follows of division.
-    pub(crate) fn divided(&mut self, a: &Term, b: &Term) -> Result<Division, Halt>
+    /// The quotient and the remainder. Where they are atoms, the path comes to know what follows of division.
+    pub(crate) fn divided(&mut self, a: &Term, b: &Term) -> Result<(Term, Term), Halt>
         ensures divides { IfOk result (λ division. Always self.old self.new (λ start v. sum_value v b.now ≢ pos 0
             → StaysOn v self.old self.new × IsDivision v division (sum_value v a.now) (sum_value v b.now))) }
         ensures extends { Extends self.old.atoms self.new.atoms }
@@ -141,11 +116,7 @@ impl Evaluator {
         let quotient = atom_term(self.alloc, quotient)?;
         let product = self.multiplied(&quotient, b)?;
         know_division(&mut self.path, a, &product, remainder)?;
-        let remainder = atom_term(self.alloc, remainder)?;
-        Ok(Division {
-            quotient,
-            remainder,
-        })
+        Ok((quotient, atom_term(self.alloc, remainder)?))
     }
 
     /// The quotient, truncated toward zero.
@@ -154,9 +125,9 @@ impl Evaluator {
             (λ v. exact.quotient (sum_value v a.now) (sum_value v b.now))) }
         ensures extends { Extends self.old.atoms self.new.atoms }
     {
-        self.expect_apart(b)?;
-        let division = self.divided(a, b)?;
-        self.ranged(division.quotient)
+        self.expect_not(b, Ordering::Equal)?;
+        let (quotient, _) = self.divided(a, b)?;
+        self.ranged(quotient)
     }
 
     /// MOD: what a division leaves, which goes by the size of the divisor.
@@ -165,10 +136,10 @@ impl Evaluator {
             (λ v. exact.modulus (sum_value v a.now) (sum_value v b.now))) }
         ensures extends { Extends self.old.atoms self.new.atoms }
     {
-        self.expect_apart(b)?;
+        self.expect_not(b, Ordering::Equal)?;
         let divisor = self.size(b)?;
-        let division = self.divided(a, &divisor)?;
-        self.ranged(division.remainder)
+        let (_, remainder) = self.divided(a, &divisor)?;
+        self.ranged(remainder)
     }
 
     /// The product of two numbers: an atom where both are unknown.
@@ -191,13 +162,7 @@ impl Evaluator {
     fn known_power(&self, base: i64, exponent: i64) -> Result<Term, Halt>
         ensures { IfOk result (λ term. Calculates self.now self.now term (λ v. exact.power base exponent)) }
     {
-        let Ok(a) = i32::try_from(base) else {
-            return Err(Halt::Unknown);
-        };
-        let Ok(b) = i32::try_from(exponent) else {
-            return Err(Halt::Unknown);
-        };
-        match power(a, b) {
+        match power(i32::try_from(base)?, i32::try_from(exponent)?) {
             Ok(result) => Ok(constant_term(self.alloc, i64::from(result))),
             Err(_) => Err(Halt::Unknown),
         }
@@ -247,11 +212,11 @@ impl Evaluator {
     {
         match operation {
             Arithmetic::Add => {
-                let exact = sum(a, b)?.ok_or(Halt::Unknown)?;
+                let exact = self.combination(1, a, 1, b)?;
                 self.ranged(exact)
             }
             Arithmetic::Subtract => {
-                let exact = difference(a, b)?.ok_or(Halt::Unknown)?;
+                let exact = self.combination(1, a, -1, b)?;
                 self.ranged(exact)
             }
             Arithmetic::Multiply => {

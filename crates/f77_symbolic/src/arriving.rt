@@ -8,14 +8,13 @@ ghost use Rattle.f77_symbolic.specs.{AreNumbers, Interprets, AreInside, IsInside
 ghost use Rattle.f77_symbolic.specs.{passes_left, state_of, turn_of, turns_of, IsOfEntry};
 ghost use Rattle.f77_symbolic.specs.code.{Extends};
 
-use crate::bounding::narrow_slot;
 use crate::evaluator::Evaluator;
 use crate::halt::{Halt, unless_unknown};
-use crate::memory::{Symbolic, Write, slots_of};
+use crate::memory::{Location, Symbolic, Write};
 use crate::sides::{ActiveTurn, Side};
-use f77_facts::assigning::assign;
+use f77_facts::assigning::{Slots, assign};
 use f77_facts::entries::Entry;
-use f77_facts::facts::{Fact, filled};
+use f77_facts::facts::{Fact, filled, set};
 use f77_facts::loops::LoopFact;
 use f77_terms::atoms::Key;
 use f77_terms::items::item_at;
@@ -73,10 +72,11 @@ impl Evaluator {
             → AreIn facts.new (slice_set cells (slot_of v write.now.location) (content_of v write.now.value))) }
     {
         let fact = self.fact_of(&write.value)?;
-        assign(facts, slots_of(&write.location), fact).ok_or(Halt::Unknown)
+        let Location { first, count, .. } = write.location;
+        assign(facts, Slots { first, count }, fact).ok_or(Halt::Unknown)
     }
 
-    /// Takes into account what is known of an atom.
+    /// Takes into account what is known of an atom: the number of a slot, or, behind these, whether it holds a value.
     fn narrow_by(&self, facts: &mut [Fact], atom: usize)
         requires { atom < vec_len self.now.atoms.table.keys }
         ensures { (start : Start) (v : Valuation) → FitsTable start.numbers v self.now.atoms.table
@@ -86,10 +86,22 @@ impl Evaluator {
         let Some(range) = atom_range(&self.path.known, atom) else {
             return;
         };
-        let Key::Slot(number) = &**item_at(&self.atoms.table.keys, atom) else {
+        let Key::Slot(number) = **item_at(&self.atoms.table.keys, atom) else {
             return;
         };
-        narrow_slot(facts, *number, range);
+        let slots = facts.len();
+        if number < slots {
+            let fact = *item_at(facts, number);
+            let range = common(fact.range, range);
+            set(facts, number, Fact { range, ..fact });
+            return;
+        }
+        if number - slots >= slots || range.low < 1 {
+            return;
+        }
+        let may_lack = false;
+        let fact = *item_at(facts, number - slots);
+        set(facts, number - slots, Fact { may_lack, ..fact });
     }
 
     /// What is known of what slots held where the walk starts.

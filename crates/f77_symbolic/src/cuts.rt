@@ -3,23 +3,19 @@
 
 ghost use Rattle.std.specs.Prelude.{◌≡◌, ◌<◌, true, length, option_map, IfOk};
 ghost use Rattle.f77_code.specs.declared.control.Place.TheVariants as Place;
-ghost use Rattle.f77_symbolic.specs.Prelude.{list_any, AreLeft, Holds, IsIn, State, SuitsTurn, TurnList, Valuation};
-ghost use Rattle.f77_symbolic.specs.Prelude.{sum_value, turn_at};
-ghost use Rattle.f77_symbolic.specs.{AreTurnNumbers, Interprets, IsVisit, Start, is_same_place, turn_of};
+ghost use Rattle.f77_symbolic.specs.Prelude.{list_any, turn_at, AreLeft, State, SuitsTurn, TurnList};
+ghost use Rattle.f77_symbolic.specs.{AreTurnNumbers, IsVisit, is_same_place, turn_of};
 ghost use Rattle.f77_symbolic.specs.code.{Always, Extends, StaysOn};
 
 use crate::evaluator::Evaluator;
-use crate::halt::Halt;
-use crate::sides::{ActiveTurn, SymbolicTurn, first_side};
+use crate::halt::{Halt, unless_unknown};
+use crate::sides::{ActiveTurn, Side, SymbolicTurn};
 use crate::visiting::Visit;
 use f77_actions::{Action, Resolved};
 use f77_code::Place;
 use f77_facts::loops::LoopFact;
 use f77_terms::atoms::Key;
 use f77_terms::items::item_at;
-use f77_terms::paths::add_range;
-use f77_terms::ranges::Range;
-use f77_terms::terms::{Term, atom_term, constant_term};
 use f77_tree::Shared;
 use std::alloc::{AllocError, Global};
 
@@ -33,83 +29,40 @@ pub(crate) fn is_cut(places: &[Place], place: Place) -> bool
     places.iter().any(|other| *other == place)
 }
 
-/// Control may come to the statement of this number once more.
-fn count(comings: &mut [u32], place: usize) {
-    if place < comings.len() {
-        comings[place] = comings[place].saturating_add(1);
-    }
-}
-
-/// Control may go on from a statement at which no DO ends.
-fn count_next(comings: &mut [u32], resolved: &Resolved) {
-    if resolved.ends.len() == 0 {
-        count(comings, resolved.next);
-    }
-}
-
-/// Where control may come to from the action of the statement i. A DO comes to its first statement, and to what is
-/// behind its last, where it begins and where it is incremented.
-fn count_comings(
-    comings: &mut [u32],
+/// Adds each statement to which control may come from one with this action. A DO comes to its first statement, and to
+/// what is behind its last, where it begins and where it is incremented.
+fn add_comings(
+    comings: &mut Vec<usize>,
     statements: &[Shared<Resolved>],
     i: usize,
-    resolved: &Resolved,
     action: &Action,
-) {
+) -> Result<(), AllocError>
+    requires { i < length statements.now }
+{
     match action {
-        Action::Goto(jump) => count(comings, jump.target),
+        Action::Goto(jump) => return Ok(comings.push(jump.target)?),
         Action::ComputedGoto { jumps, .. } => {
-            for jump in jumps {
-                count(comings, jump.target);
-            }
-            count_next(comings, resolved);
+            comings.extend(jumps.iter().map(|jump| jump.target))?;
         }
         Action::ArithmeticIf {
             negative,
             zero,
             positive,
             ..
-        } => {
-            count(comings, negative.target);
-            count(comings, zero.target);
-            count(comings, positive.target);
-        }
-        Action::LogicalIf { action, .. } => {
-            count_next(comings, resolved);
-            count_comings(comings, statements, i, resolved, action);
-        }
-        Action::Branch { otherwise, .. } => {
-            count_next(comings, resolved);
-            count(comings, *otherwise);
-        }
+        } => return comings.extend([negative.target, zero.target, positive.target]),
+        Action::LogicalIf { action, .. } => add_comings(comings, statements, i, action)?,
+        Action::Branch { otherwise, .. } => comings.push(*otherwise)?,
         Action::Loop { terminal, .. } => {
-            count(comings, i.saturating_add(1));
-            count(comings, i.saturating_add(1));
-            if *terminal < statements.len() {
-                count(comings, statements[*terminal].next);
-                count(comings, statements[*terminal].next);
-            }
+            let behind = statements.get(*terminal).map_or(i, |end| end.next);
+            return comings.extend([i + 1, i + 1, behind, behind]);
         }
-        Action::AssignNumber(..) | Action::AssignTruth(..) | Action::Continue => {
-            count_next(comings, resolved);
-        }
-        Action::Return | Action::Stop | Action::Trap | Action::Declaration => {}
+        Action::AssignNumber(..) | Action::AssignTruth(..) | Action::Continue => {}
+        Action::Return | Action::Stop | Action::Trap | Action::Declaration => return Ok(()),
     }
-}
-
-/// On how many ways control may come to each statement.
-fn comings_of(
-    alloc: Global,
-    statements: &[Shared<Resolved>],
-    entry: usize,
-) -> Result<Vec<u32>, AllocError> {
-    let mut comings = vec![in alloc; 0; statements.len()]?;
-    count(&mut comings, entry);
-    for i in 0..statements.len() {
-        let resolved = &statements[i];
-        count_comings(&mut comings, statements, i, resolved, &resolved.action);
+    if statements[i].ends.len() == 0 {
+        comings.push(statements[i].next)?;
     }
-    Ok(comings)
+    Ok(())
 }
 
 /// The place where runs start, and behind it, where they are asked for, each to which control comes on more ways.
@@ -122,34 +75,20 @@ pub fn cuts_of(
     ensures { IfOk result (λ places.
         list_any (λ other. is_same_place other (Place.Execute entry)) places.items ≡ true) }
 {
-    let comings = comings_of(alloc, statements, entry)?;
-    let mut places = Vec::new(alloc);
-    places.push(Place::Execute(entry))?;
-    for (i, ways) in comings.iter().enumerate() {
-        if joins && i != entry && *ways > 1 {
-            places.push(Place::Execute(i))?;
-        }
+    let mut comings = vec![in alloc; entry]?;
+    for i in 0..statements.len() {
+        add_comings(&mut comings, statements, i, &statements[i].action)?;
+    }
+    let is_join = |i: &usize| *i != entry && comings.iter().filter(|to| *to == i).count() > 1;
+    let mut places = vec![in alloc; Place::Execute(entry)]?;
+    if joins {
+        places.extend((0..statements.len()).filter(is_join).map(Place::Execute))?;
     }
     Ok(places)
 }
 
 #[tactic(auto, using(crate::proofs::Extending::extending))]
 impl Evaluator {
-    /// A number of the range: a constant, or what stands behind the slots where the walk starts.
-    fn unknown_number(&mut self, number: usize, range: Range) -> Result<Term, Halt>
-        ensures stands { IfOk result (λ term. (start : Start) (v : Valuation) → Interprets self.new.atoms start v
-            → Holds v self.old.path → IsIn range (start.numbers number)
-            → StaysOn v self.old self.new × (sum_value v term ≡ start.numbers number)) }
-        ensures extends { Extends self.old.atoms self.new.atoms }
-    {
-        if range.high == range.low {
-            return Ok(constant_term(self.alloc, range.low));
-        }
-        let atom = self.atom_of(Key::Slot(number))?;
-        add_range(&mut self.path, atom, range)?;
-        Ok(atom_term(self.alloc, atom)?)
-    }
-
     /// What the DO d has left.
     fn turn_known(&mut self, d: usize, count: usize, fact: LoopFact) -> Result<ActiveTurn, Halt>
         ensures stands { IfOk result (λ turn. Always self.old self.new (λ start v. (turns : TurnList)
@@ -161,13 +100,11 @@ impl Evaluator {
         let LoopFact::Active { passes, step } = fact else {
             return Ok(None);
         };
-        if self.atoms.facts.len() >= MOST_SLOTS || count >= MOST_SLOTS || d >= MOST_SLOTS {
-            return Err(Halt::Unknown);
-        }
+        unless_unknown(self.atoms.facts.len().max(count).max(d) < MOST_SLOTS)?;
         // Behind the slots there is whether each holds a value.
         let first = 2 * self.atoms.facts.len();
-        let passes = self.unknown_number(first + d, passes)?;
-        let step = self.unknown_number(first + count + d, step)?;
+        let passes = self.unknown_number(Key::Slot(first + d), passes)?;
+        let step = self.unknown_number(Key::Slot(first + count + d), step)?;
         Ok(Some(Shared::new(self.alloc, SymbolicTurn { passes, step })?))
     }
 
@@ -189,7 +126,11 @@ impl Evaluator {
             let turn = self.turn_known(d, count, *item_at(loops, d))?;
             turns.push(turn)?;
         }
-        let side = first_side(self.alloc, place, turns)?;
+        let side = Side {
+            place,
+            writes: Shared::new(self.alloc, Vec::new(self.alloc))?,
+            turns: Shared::new(self.alloc, turns)?,
+        };
         let path = self.taken_path();
         Ok(Visit { path, side })
     }

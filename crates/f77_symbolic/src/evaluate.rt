@@ -4,11 +4,11 @@ ghost use Rattle.std.specs.Prelude.{◌∷◌, ◌+◌, ◌≤ℤ◌, ◌<ℤ◌
 ghost use Rattle.f77_actions.specs.Value as meaning;
 ghost use Rattle.f77_actions.specs.Value.{element, given};
 ghost use Rattle.f77_symbolic.specs.Prelude.{number_in, slot_in, truth_in, slot_behind, Valuation, sum_value};
-ghost use Rattle.f77_symbolic.specs.code.{Extends, Always, Answers, Calculates, Expects};
+ghost use Rattle.f77_symbolic.specs.code.{Extends, Always, Answers, Calculates};
 ghost use Rattle.f77_symbolic.specs.code.{YieldsNumber, YieldsSlot, YieldsTruth};
 ghost use Rattle.f77_symbolic.specs.{IsInside, slot_of, content_of};
 
-use crate::comparing::connected;
+use crate::asking::connected;
 use crate::evaluator::Evaluator;
 use crate::halt::Halt;
 use crate::memory::{Location, Symbolic, Write, fixed};
@@ -16,6 +16,7 @@ use f77_actions::{Condition, Element, Number};
 use f77_terms::terms::{Term, constant_of, constant_term};
 use f77_tree::Shared;
 use std::alloc::Global;
+use std::cmp::Ordering;
 
 /// The location with this index, which is one of so many: a slot of its own where the index is a constant.
 fn located(alloc: Global, first: usize, count: usize, index: Term) -> Result<Location, Halt>
@@ -38,50 +39,6 @@ fn located(alloc: Global, first: usize, count: usize, index: Term) -> Result<Loc
 
 #[tactic(auto, using(crate::proofs::Extending::extending))]
 impl Evaluator {
-    /// There is a fault unless the subscript is from 1 to the bound.
-    fn expect_subscript(&mut self, subscript: &Term, bound: u32) -> Result<(), Halt>
-        ensures expects { IfOk result (λ _. Expects self.old self.new
-            (λ v. (pos 1 ≤ℤ sum_value v subscript.now) × (sum_value v subscript.now ≤ℤ pos bound))) }
-        ensures extends { Extends self.old.atoms self.new.atoms }
-    {
-        self.expect_below(-1, subscript, 1)?;
-        self.expect_below(1, subscript, -i64::from(bound))
-    }
-
-    /// The location of an element of an array of one dimension.
-    fn vector(&mut self, first: usize, bound: u32, subscript: &Term) -> Result<Location, Halt>
-        ensures locates { IfOk result (λ location. Always self.old self.new (λ start v. Answers v self.old self.new
-            (given (element (bound ∷ []) (sum_value v subscript.now ∷ [])) (λ k. Ok (first + k)))
-            (λ k. IsInside v location × (slot_of v location ≡ k)))) }
-        ensures extends { Extends self.old.atoms self.new.atoms }
-    {
-        self.expect_subscript(subscript, bound)?;
-        let index = self.plus(1, subscript, -1)?;
-        located(self.alloc, first, bound as usize, index)
-    }
-
-    /// The location of an element of an array of two dimensions.
-    fn matrix(
-        &mut self,
-        first: usize,
-        rows: u32,
-        columns: u32,
-        row: &Term,
-        column: &Term,
-    ) -> Result<Location, Halt>
-        ensures locates { IfOk result (λ location. Always self.old self.new (λ start v. Answers v self.old self.new
-            (given (element (rows ∷ (columns ∷ [])) (sum_value v row.now ∷ (sum_value v column.now ∷ [])))
-            (λ k. Ok (first + k))) (λ k. IsInside v location × (slot_of v location ≡ k)))) }
-        ensures extends { Extends self.old.atoms self.new.atoms }
-    {
-        self.expect_subscript(row, rows)?;
-        self.expect_subscript(column, columns)?;
-        let height = i64::from(rows);
-        let both = self.combination(1, row, height, column)?;
-        let index = self.plus(1, &both, -1 - height)?;
-        located(self.alloc, first, rows as usize * columns as usize, index)
-    }
-
     /// The location of a reference.
     #[cycle(values)]
     pub(crate) fn location_of(
@@ -100,8 +57,10 @@ impl Evaluator {
                 bound,
                 subscript,
             } => {
-                let index = self.number_of(writes, subscript)?;
-                self.vector(*first, *bound, &index)
+                let number = self.number_of(writes, subscript)?;
+                self.expect_within(1, &number, *bound)?;
+                let index = self.plus(1, &number, -1)?;
+                located(self.alloc, *first, *bound as usize, index)
             }
             Element::Matrix {
                 first,
@@ -112,7 +71,17 @@ impl Evaluator {
             } => {
                 let row = self.number_of(writes, row)?;
                 let column = self.number_of(writes, column)?;
-                self.matrix(*first, *rows, *columns, &row, &column)
+                self.expect_within(1, &row, *rows)?;
+                self.expect_within(1, &column, *columns)?;
+                let height = i64::from(*rows);
+                let both = self.combination(1, &row, height, &column)?;
+                let index = self.plus(1, &both, -1 - height)?;
+                located(
+                    self.alloc,
+                    *first,
+                    *rows as usize * *columns as usize,
+                    index,
+                )
             }
         }
     }
@@ -154,7 +123,7 @@ impl Evaluator {
             }
             Number::ZeroPush(operand) => {
                 let a = self.number_of(writes, operand)?;
-                self.expect_apart(&a)?;
+                self.expect_not(&a, Ordering::Equal)?;
                 Ok(a)
             }
             Number::Binary(operation, left, right) => {

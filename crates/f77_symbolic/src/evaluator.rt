@@ -1,17 +1,19 @@
 //! What evaluates expressions of a program, where a path holds.
 
-ghost use Rattle.std.specs.Prelude.{◌≡◌, ◌≢◌, ◌+ℤ◌, ◌*ℤ◌, ◌≤ℤ◌, pos, IfOk};
-ghost use Rattle.f77_symbolic.specs.Prelude.{IsDefined, function_value, key_value, Holds, Valuation, sum_value};
+ghost use Rattle.std.specs.Prelude.{◌≡◌, ◌+ℤ◌, ◌*ℤ◌, ◌≤ℤ◌, pos, IfOk};
+ghost use Rattle.f77_symbolic.specs.Prelude.{HasSign, Holds, IsDefined, IsIn, Valuation, sum_value};
+ghost use Rattle.f77_symbolic.specs.Prelude.{function_value, key_value};
 ghost use Rattle.f77_symbolic.specs.code.{Extends, Always, AlwaysTells, Expects, StaysOn};
 
 use crate::halt::{Halt, unless_unknown};
-use crate::samples::Samples;
+use crate::samples::{Samples, is_in};
 use f77_facts::facts::Fact;
 use f77_terms::atoms::{Function, Key, Table, interned};
 use f77_terms::knowing::{is_ranged_off, know_function};
-use f77_terms::paths::{Path, add_below, add_unequal, copied_path};
-use f77_terms::terms::{Term, combined, copy, plus_constant};
-use std::alloc::Global;
+use f77_terms::paths::{Path, add_below, add_range, add_unequal, copied_path};
+use f77_terms::ranges::Range;
+use f77_terms::terms::{Term, atom_term, combined, constant_term, copy};
+use std::alloc::{AllocError, Global};
 use std::cmp::Ordering;
 
 /// With so many atoms no more are made.
@@ -37,6 +39,18 @@ pub struct Evaluator {
     pub samples: Samples,
 }
 
+/// Adds that a term has not this sign.
+pub(crate) fn add_other_sign(path: &mut Path, term: &Term, sign: Ordering) -> Result<(), AllocError>
+    ensures { IfOk result (λ _. (v : Valuation) → Holds v path.old → ¬ (HasSign sign (sum_value v term.now))
+        → Holds v path.new) }
+{
+    match sign {
+        Ordering::Less => add_below(path, -1, term, 0),
+        Ordering::Equal => add_unequal(path, term),
+        Ordering::Greater => add_below(path, 1, term, 0),
+    }
+}
+
 #[tactic(auto, using(crate::proofs::Extending::extending))]
 impl Evaluator {
     /// The path is one like this, and so are the samples.
@@ -59,6 +73,23 @@ impl Evaluator {
         let atom = interned(&mut self.atoms.table, key)?.ok_or(Halt::Unknown)?;
         self.samples.learn(&self.atoms.table)?;
         Ok(atom)
+    }
+
+    /// The number with a key, which is in the range: a constant where that has one number alone.
+    pub(crate) fn unknown_number(&mut self, key: Key, range: Range) -> Result<Term, Halt>
+        ensures stands { IfOk result (λ term. Always self.old self.new (λ start v.
+            IsIn range (key_value start.numbers v key)
+            → StaysOn v self.old self.new × (sum_value v term ≡ key_value start.numbers v key))) }
+        ensures extends { Extends self.old.atoms self.new.atoms }
+    {
+        if range.high == range.low {
+            return Ok(constant_term(self.alloc, range.low));
+        }
+        let atom = self.atom_of(key)?;
+        add_range(&mut self.path, atom, range)?;
+        let term = atom_term(self.alloc, atom)?;
+        self.samples.keep(&term, |z| is_in(Some(z), range))?;
+        Ok(term)
     }
 
     /// The atom that is a function of two numbers, of which the path comes to know what follows.
@@ -92,38 +123,34 @@ impl Evaluator {
         ensures { IfOk result (λ sum. (v : Valuation)
             → sum_value v sum ≡ constant +ℤ m *ℤ sum_value v term.now) }
     {
-        plus_constant(m, term, constant)?.ok_or(Halt::Unknown)
+        self.combination(m, term, 1, &constant_term(self.alloc, constant))
     }
 
-    /// There is a fault unless a term, m times, and a constant are at most 0.
-    pub(crate) fn expect_below(&mut self, m: i64, term: &Term, constant: i64) -> Result<(), Halt>
+    /// There is a fault where a term has this sign.
+    pub(crate) fn expect_not(&mut self, term: &Term, sign: Ordering) -> Result<(), Halt>
         ensures expects { IfOk result (λ _. Expects self.old self.new
-            (λ v. (constant +ℤ m *ℤ sum_value v term.now) ≤ℤ pos 0)) }
+            (λ v. ¬ (HasSign sign (sum_value v term.now)))) }
         ensures extends { Extends self.old.atoms self.new.atoms }
     {
-        let bound = self.plus(m, term, constant)?;
         if !self.own {
-            return unless_unknown(self.never_has(&bound, Ordering::Greater)?);
+            return unless_unknown(self.never_has(term, sign)?);
         }
-        if is_ranged_off(&self.path, &bound, Ordering::Greater) {
+        if is_ranged_off(&self.path, term, sign) {
             return Ok(());
         }
-        add_below(&mut self.path, 1, &bound, 0)?;
-        Ok(self.samples.keep(&bound, Ordering::Greater)?)
+        add_other_sign(&mut self.path, term, sign)?;
+        Ok(self.samples.keep(term, |z| z.cmp(&0) != sign)?)
     }
 
-    /// There is a fault where a term is 0.
-    pub(crate) fn expect_apart(&mut self, term: &Term) -> Result<(), Halt>
-        ensures expects { IfOk result (λ _. Expects self.old self.new (λ v. sum_value v term.now ≢ pos 0)) }
+    /// There is a fault unless a term is from the low to the high number.
+    pub(crate) fn expect_within(&mut self, low: i64, term: &Term, high: u32) -> Result<(), Halt>
+        ensures expects { IfOk result (λ _. Expects self.old self.new
+            (λ v. (low ≤ℤ sum_value v term.now) × (sum_value v term.now ≤ℤ pos high))) }
         ensures extends { Extends self.old.atoms self.new.atoms }
     {
-        if !self.own {
-            return unless_unknown(self.never_has(term, Ordering::Equal)?);
-        }
-        if is_ranged_off(&self.path, term, Ordering::Equal) {
-            return Ok(());
-        }
-        add_unequal(&mut self.path, term)?;
-        Ok(self.samples.keep(term, Ordering::Equal)?)
+        let too_low = self.plus(-1, term, low)?;
+        self.expect_not(&too_low, Ordering::Greater)?;
+        let too_high = self.plus(1, term, -i64::from(high))?;
+        self.expect_not(&too_high, Ordering::Greater)
     }
 }

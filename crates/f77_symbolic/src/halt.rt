@@ -1,24 +1,17 @@
 //! Why an evaluation or a walk goes no further.
 
-ghost use Rattle.std.specs.Prelude.{◌≡◌, pos, true, IfOk, IsOk};
+ghost use Rattle.std.specs.Prelude.{◌≡◌, true, Ok, IfOk, IfSome};
 
 use f77_terms::terms::Term;
 use std::alloc::{AllocError, AllocFailed};
-
-/// Two ways of a path.
-#[derive(Drop)]
-pub enum Split {
-    /// The term is below 0, or it is not.
-    Sign(Term),
-    /// The term is 0, or it is not.
-    Zero(Term),
-}
+use std::cmp::Ordering;
+use std::num::TryFromIntError;
 
 /// Why there is no answer. Nothing follows from it: any path may be split on any term, and any walk given up.
 #[derive(Drop)]
 pub enum Halt {
-    /// The path does not decide it, and on each of two ways it may.
-    Split(Split),
+    /// The path does not decide whether the term has this sign, and on each of two ways it may.
+    Split(Term, Ordering),
     /// It is not told.
     Unknown,
     /// No memory was left.
@@ -37,6 +30,12 @@ impl<T: Drop> From<AllocFailed<T>> for Halt {
     }
 }
 
+impl From<TryFromIntError> for Halt {
+    fn from(_e: TryFromIntError) -> Halt {
+        Halt::Unknown
+    }
+}
+
 /// It goes on where this was shown.
 pub(crate) fn unless_unknown(shown: bool) -> Result<(), Halt>
     ensures { IfOk result (λ _. shown ≡ true) }
@@ -44,23 +43,13 @@ pub(crate) fn unless_unknown(shown: bool) -> Result<(), Halt>
     if shown { Ok(()) } else { Err(Halt::Unknown) }
 }
 
-/// Whether it was shown. It is false too where the path would have to be split for that.
-pub(crate) fn is_shown(shown: Result<(), Halt>) -> Result<bool, AllocError>
-    ensures { IfOk result (λ yes. yes ≡ true → IsOk shown) }
+/// The answer, if there is one. There is none too where the path would have to be split for it.
+pub(crate) fn told<T: Drop>(answer: Result<T, Halt>) -> Result<Option<T>, AllocError>
+    ensures { IfOk result (λ found. IfSome found (λ value. answer ≡ Ok value)) }
 {
-    match shown {
-        Ok(()) => Ok(true),
+    match answer {
+        Ok(value) => Ok(Some(value)),
         Err(Halt::Memory) => Err(AllocError),
-        Err(_) => Ok(false),
-    }
-}
-
-/// The number as one with a sign.
-pub(crate) fn signed(number: usize) -> Result<i64, Halt>
-    ensures { IfOk result (λ z. z ≡ pos number) }
-{
-    match i64::try_from(number) {
-        Ok(z) => Ok(z),
-        Err(_) => Err(Halt::Unknown),
+        Err(_) => Ok(None),
     }
 }

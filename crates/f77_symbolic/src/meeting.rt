@@ -1,10 +1,9 @@
 //! Whether both sides of a pair hold the same.
 
-ghost use Rattle.std.specs.Prelude.{◌≡◌, ℕ, All, false, option_map, IfOk};
-ghost use Rattle.f77_symbolic.specs.Prelude.{Holds, Valuation};
-ghost use Rattle.f77_symbolic.specs.{Interprets, AreInside, IsInside, Start, cells_of, slot_of};
-ghost use Rattle.f77_symbolic.specs.{content_of, state_of, turn_of, turns_of};
-ghost use Rattle.f77_symbolic.specs.code.{Extends, Always, StaysOn, HoldSameIn, IsAsked, IsThere};
+ghost use Rattle.std.specs.Prelude.{◌≡◌, ℕ, All, None, false, option_map, IfOk};
+ghost use Rattle.f77_symbolic.specs.Prelude.{Change, Holds, Valuation};
+ghost use Rattle.f77_symbolic.specs.{AreInside, IsInside, cells_of, content_of, slot_of, turn_of, turns_of};
+ghost use Rattle.f77_symbolic.specs.code.{Extends, Always, StaysOn, HoldSameIn, IsAsked, RestsOn};
 
 use crate::evaluator::Evaluator;
 use crate::halt::{Halt, unless_unknown};
@@ -47,30 +46,6 @@ impl Evaluator {
         }
     }
 
-    /// Both sides hold the same in the slot of a location, if that is of the list.
-    fn show_same_at(
-        &mut self,
-        left: &[Shared<Write>],
-        right: &[Shared<Write>],
-        location: &Location,
-        only: Option<&[Slots]>,
-    ) -> Result<(), Halt>
-        ensures same { IfOk result (λ _. Always self.old self.new (λ start v. self.old.own ≡ false
-            → AreInside v left.now → AreInside v right.now → IsInside v location.now
-            → StaysOn v self.old self.new
-            × HoldSameIn (option_map (λ list. list.now) only.entry)
-            (cells_of start.cells v left.now) (cells_of start.cells v right.now) (slot_of v location.now))) }
-        ensures extends { Extends self.old.atoms self.new.atoms }
-    {
-        if !may_be_of(location, only) {
-            return Ok(());
-        }
-        let own = self.read(left, location)?;
-        let other = self.read(right, location)?;
-        self.samples.compare(location.first);
-        self.show_same_value(&own, &other)
-    }
-
     /// Both sides hold the same in the slots of these writes that are of the list.
     fn show_same_in(
         &mut self,
@@ -87,8 +62,15 @@ impl Evaluator {
             (slot_of v write.location)) writes.now)) }
         ensures extends { Extends self.old.atoms self.new.atoms }
     {
-        for k in 0..writes.len() {
-            self.show_same_at(left, right, &item_at(writes, k).location, only)?;
+        for write in writes {
+            let location = &write.location;
+            if !may_be_of(location, only) {
+                continue;
+            }
+            let own = self.read(left, location)?;
+            let other = self.read(right, location)?;
+            self.samples.compare(location.first);
+            self.show_same_value(&own, &other)?;
         }
         Ok(())
     }
@@ -141,13 +123,15 @@ impl Evaluator {
         Ok(())
     }
 
-    /// Where its path holds, both sides of the pair are at one place, all slots hold the same, and all DOs have the
-    /// same left.
-    pub(crate) fn show_same_state(&mut self, pair: &Pair) -> Result<(), Halt>
-        ensures same { IfOk result (λ _. (start : Start) (v : Valuation) → Interprets self.new.atoms start v
-            → IsThere v pair.now → state_of start.cells v pair.now.right ≡ state_of start.cells v pair.now.left) }
+    /// They met: the program made a step, the changed one no more steps, both are at one place, all slots hold the
+    /// same, and all DOs have the same left.
+    pub(crate) fn show_met(&mut self, pair: &Pair) -> Result<(), Halt>
+        ensures rests { IfOk result (λ _. (change : Change) → RestsOn self.new.atoms change None pair.now) }
         ensures extends { Extends self.old.atoms self.new.atoms }
     {
+        if pair.fresh || pair.credit < 0 {
+            return Err(Halt::Unknown);
+        }
         unless_unknown(pair.left.place == pair.right.place)?;
         self.come_on(&pair.path)?;
         self.show_same_turns(&pair.left.turns, &pair.right.turns)?;

@@ -1,12 +1,15 @@
 //! Samples are mended: numbers of slots are changed, one after another, so that a sample is on a path and a term has a
 //! sign there.
 
-use crate::samples::{Sample, Samples, Wanted, has_sign};
+use crate::evaluator::Evaluator;
+use crate::samples::Sample;
 use f77_terms::atoms::{Function, Key, Table};
+use f77_terms::numbers::common_divisor;
+use f77_terms::paths::Path;
 use f77_terms::ranges::Range;
-use f77_terms::terms::{Part, Term};
-use std::alloc::{AllocError, Global};
-use std::cmp::Ordering;
+use f77_terms::terms::{Part, Term, constant_of};
+use std::alloc::AllocError;
+use std::slice;
 
 /// So many samples are tried to be changed for one question, the last made first.
 const MOST_TRIES: usize = 4;
@@ -31,199 +34,132 @@ const ATOMS: u64 = 2;
 
 /// The number divided, and rounded away from 0.
 fn rounded(distance: i64, by: i64) -> Option<i64> {
-    let quotient = distance.checked_div(by)?;
-    match distance.checked_rem(by)? {
-        0 => Some(quotient),
-        _ if (distance < 0) == (by < 0) => quotient.checked_add(1),
-        _ => quotient.checked_sub(1),
-    }
+    let less_than_by = by.checked_abs()?.checked_sub(1)?;
+    let most = distance.checked_add(less_than_by.checked_mul(distance.signum())?)?;
+    most.checked_div(by)
 }
 
-/// The greatest common divisor.
-fn common_divisor(a: i64, b: i64) -> i64 {
-    let (mut greater, mut lesser) = (a, b);
-    for _ in 0..64 {
-        let Some(rest) = greater.checked_rem(lesser) else {
-            return greater;
-        };
-        greater = lesser;
-        lesser = rest;
-    }
-    1
-}
-
-/// A common multiple of a number and a divisor.
-fn multiple_with(multiple: i64, divisor: i64) -> Option<i64> {
+/// The least common multiple of two numbers.
+fn multiple_with(multiple: u64, divisor: u64) -> Option<u64> {
     let quotient = multiple.checked_div(common_divisor(multiple, divisor))?;
     let both = quotient.checked_mul(divisor)?;
-    (both != 0 && both.unsigned_abs() <= MOST_MULTIPLE).then_some(both)
+    (both != 0 && both <= MOST_MULTIPLE).then_some(both)
 }
 
 /// A number by multiples of which a slot may be changed, so that remainders stay.
 fn common_multiple(table: &Table) -> i64 {
     let divisors = table.keys.iter().filter_map(|key| match &**key {
-        Key::Function(Function::Remainder, _, b) if b.parts.is_empty() => Some(b.constant),
+        Key::Function(Function::Remainder, _, b) => Some(constant_of(b)?.unsigned_abs()),
         _ => None,
     });
-    divisors.fold(
-        1,
-        |multiple, divisor| multiple_with(multiple, divisor).unwrap_or(multiple),
-    )
+    let multiple = divisors.fold(1, |all, by| multiple_with(all, by).unwrap_or(all));
+    i64::try_from(multiple).unwrap_or(1)
 }
 
-/// What is tried in place of a number that is to be changed by so much: one so changed, one changed by a multiple of
-/// divisors, so that remainders stay, and those of the list.
+/// What is tried in place of a number: one changed by so much, one by a multiple of divisors, and those of the list.
 fn tried(table: &Table, now: i64, by: i64, way: usize) -> i64 {
-    match way {
-        0 => now.saturating_add(by),
-        1 => {
-            let multiple = common_multiple(table);
-            let times = rounded(by, multiple).unwrap_or(0);
-            now.saturating_add(times.saturating_mul(multiple))
-        }
-        _ => TRIED.get(way - 2).copied().unwrap_or(now),
-    }
+    let multiple = match way {
+        0 => 1,
+        1 => common_multiple(table),
+        _ => return TRIED.get(way - 2).copied().unwrap_or(now),
+    };
+    let times = rounded(by, multiple).unwrap_or(0);
+    now.saturating_add(times.saturating_mul(multiple))
 }
 
 impl Sample {
-    /// The slot that an atom is of.
-    fn slot_of(&self, table: &Table, atom: usize) -> Option<usize> {
-        match &**table.keys.get(atom)? {
-            Key::Slot(slot) => Some(*slot),
-            Key::Element(first, index) => self.slot_behind(*first, index),
-            Key::Function(..) => None,
-        }
-    }
-
-    /// The slot of which the number is to be changed, and by how much, so that a term changes by so much.
-    fn change_in(&self, table: &Table, term: &Term, by: i64) -> Option<(usize, i64)> {
-        let mut parts = term.parts.iter();
-        let slot_in = |part: &Part| Some((self.slot_of(table, part.atom)?, part.factor));
-        let (slot, factor) = parts.find_map(slot_in)?;
-        Some((slot, rounded(by, factor)?))
-    }
-
-    /// The same for a part, of which the atom may be a function of terms.
-    fn change_of(&self, table: &Table, part: Part, by: i64) -> Option<(usize, i64)> {
-        let by = rounded(by, part.factor)?;
-        let (a, by) = match &**table.keys.get(part.atom)? {
-            Key::Function(Function::Quotient, a, b) => (a, by.checked_mul(self.value(b)?)?),
-            Key::Function(Function::Product, a, b) => (a, rounded(by, self.value(b)?)?),
-            Key::Function(_, a, _) => (a, by),
-            _ => return Some((self.slot_of(table, part.atom)?, by)),
+    /// A slot and its next number, by which a part, of which the atom may be a function of terms, changes by so much.
+    fn next_number(&self, table: &Table, part: &Part, by: i64, way: usize) -> Option<(usize, i64)> {
+        let z = rounded(by, part.factor)?;
+        let (parts, by) = match &**table.keys.get(part.atom)? {
+            Key::Function(Function::Quotient, a, b) => (&*a.parts, z.checked_mul(self.value(b)?)?),
+            Key::Function(Function::Product, a, b) => (&*a.parts, rounded(z, self.value(b)?)?),
+            Key::Function(_, a, _) => (&*a.parts, z),
+            _ => (slice::from_ref(part), by),
         };
-        self.change_in(table, a, by)
+        let slot_in = |part: &Part| Some((self.slot_of(table.keys.get(part.atom)?)?, part.factor));
+        let (slot, factor) = parts.iter().find_map(slot_in)?;
+        let now = *self.held.get(slot)?;
+        let next = tried(table, now, rounded(by, factor)?, way);
+        (next != now && i32::try_from(next).is_ok()).then_some((slot, next))
     }
 
-    /// A term that keeps the sample from what is wanted, and by how much it is to be changed.
-    fn lack<'a>(&self, wanted: Wanted<'a>) -> Option<(&'a Term, i64)> {
-        let now = self.value(wanted.term);
-        if !has_sign(now, wanted.sign) {
-            // Of a number -1, 0 or 1 the sign is told by that number.
-            let target = wanted.sign as i64;
-            return Some((wanted.term, target.saturating_sub(now.unwrap_or(0))));
+    /// A term that keeps the sample from the path or from the bounds, and by how much it is to be changed.
+    fn lack<'a>(&self, path: &'a Path, bounds: &'a [Term]) -> Option<(&'a Term, i64)> {
+        let above = |term: &Term| self.value(term).unwrap_or(1).max(0);
+        let mut below = bounds.iter().chain(&path.below);
+        if let Some(term) = below.find(|term| above(term) > 0) {
+            return Some((term, above(term).saturating_neg()));
         }
-        for term in &wanted.path.below {
-            let now = self.value(term).unwrap_or(1);
-            if now > 0 {
-                return Some((term, now.saturating_neg()));
-            }
-        }
-        let mut unequal = wanted.path.unequal.iter();
-        let equal = unequal.find(|term| self.value(term).unwrap_or(0) == 0)?;
-        Some((equal, 1))
+        let mut unequal = path.unequal.iter();
+        Some((unequal.find(|term| self.value(term).unwrap_or(0) == 0)?, 1))
     }
 
     /// Numbers of slots that are not in the range of their atom are moved there.
     fn move_within(&mut self, table: &Table, known: &[Option<Range>]) {
-        for (atom, known) in known.iter().enumerate() {
-            if let (Some(range), Some(slot)) = (known, self.slot_of(table, atom)) {
+        for (key, known) in table.keys.iter().zip(known) {
+            if let (Some(range), Some(slot)) = (known, self.slot_of(key)) {
                 if let Some(number) = self.held.get_mut(slot) {
                     *number = (*number).max(range.low).min(range.high);
                 }
             }
         }
     }
-
-    /// One slot is changed, so that the sample lacks less. False where that is not told.
-    fn change(&mut self, wanted: Wanted, term: &Term, by: i64, changes: usize, way: usize) -> bool {
-        let count = term.parts.len();
-        let way = if changes == 0 { way } else { way.min(1) };
-        for more in 0..count {
-            let place = changes.saturating_add(more) % count;
-            let Some((slot, by)) = self.change_of(wanted.table, term.parts[place], by) else {
-                continue;
-            };
-            if let Some(number) = self.held.get_mut(slot) {
-                let next = tried(wanted.table, *number, by, way);
-                if next != *number && i32::try_from(next).is_ok() {
-                    *number = next;
-                    return true;
-                }
-            }
-        }
-        false
-    }
-
-    /// A sample as wanted that is found from this one.
-    fn mended(
-        &self,
-        alloc: Global,
-        wanted: Wanted,
-        way: usize,
-    ) -> Result<Option<Sample>, AllocError> {
-        let mut sample = self.copied(alloc, true)?;
-        for changes in 0..MOST_CHANGES {
-            sample.move_within(wanted.table, &wanted.path.known);
-            sample.values.clear();
-            sample.extend(wanted.table)?;
-            let Some((term, by)) = sample.lack(wanted) else {
-                return Ok(sample.is_on(wanted.path).then_some(sample));
-            };
-            if !sample.change(wanted, term, by, changes, way) {
-                return Ok(None);
-            }
-        }
-        Ok(None)
-    }
 }
 
-impl Samples {
-    /// A sample as wanted is made from others.
-    fn made(&self, alloc: Global, wanted: Wanted) -> Result<Option<Sample>, AllocError> {
-        let ways = if self.seeks { 2 + TRIED.len() } else { 1 };
-        let are_any = self.are_any()?;
-        let list = self.list()?;
-        let fit = list
-            .iter()
-            .rev()
-            .filter(|sample| sample.is_on_path == are_any);
-        for sample in fit.take(MOST_TRIES) {
+impl Evaluator {
+    /// Slots of a sample are changed, so that it is on the path and the bounds hold. False where that is not told.
+    fn mend(&self, sample: &mut Sample, bounds: &[Term], way: usize) -> Result<bool, AllocError> {
+        let table = &self.atoms.table;
+        self.samples.spend(table.keys.len() as u64 / ATOMS + 1);
+        for changes in 0..MOST_CHANGES {
+            sample.move_within(table, &self.path.known);
+            sample.values.clear();
+            sample.extend(table)?;
+            let Some((term, by)) = sample.lack(&self.path, bounds) else {
+                sample.is_on_path = sample.is_on(&self.path);
+                return Ok(sample.is_on_path);
+            };
+            let way = if changes == 0 { way } else { way.min(1) };
+            let parts = &term.parts;
+            let mut turned = parts.iter().cycle().skip(changes).take(parts.len());
+            let change = turned.find_map(|part| sample.next_number(table, part, by, way));
+            let Some((slot, next)) = change else {
+                return Ok(false);
+            };
+            if let Some(number) = sample.held.get_mut(slot) {
+                *number = next;
+            }
+        }
+        Ok(false)
+    }
+
+    /// A sample on the path, where the bounds hold, is made from others, if one is found and not too many were made.
+    fn made(&self, bounds: &[Term]) -> Result<Option<Sample>, AllocError> {
+        let seeks = self.samples.seeks;
+        let most = if seeks { MOST_SOUGHT } else { MOST_SAMPLES };
+        let ways = if seeks { 2 + TRIED.len() } else { 1 };
+        let are_any = self.samples.are_any()?;
+        let list = self.samples.list()?;
+        let tries = if list.len() < most { MOST_TRIES } else { 0 };
+        let fits = |sample: &&Sample| sample.is_on_path == are_any;
+        for sample in list.iter().rev().filter(fits).take(tries) {
             for way in 0..ways {
-                self.spend(wanted.table.keys.len() as u64 / ATOMS + 1);
-                let made = sample.mended(alloc, wanted, way)?;
-                if made.is_some() {
-                    return Ok(made);
+                let mut sample = sample.clone()?;
+                if self.mend(&mut sample, bounds, way)? {
+                    return Ok(Some(sample));
                 }
             }
         }
         Ok(None)
     }
 
-    /// A sample as wanted is made and added, if one is found and not too many were made.
-    pub(crate) fn find(&self, alloc: Global, wanted: Wanted) -> Result<bool, AllocError> {
-        let most = if self.seeks {
-            MOST_SOUGHT
-        } else {
-            MOST_SAMPLES
-        };
-        if self.list()?.len() >= most {
-            return Ok(false);
-        }
-        let Some(sample) = self.made(alloc, wanted)? else {
+    /// Such a sample is made and added, if one is found.
+    pub(crate) fn find_sample(&self, bounds: &[Term]) -> Result<bool, AllocError> {
+        let Some(sample) = self.made(bounds)? else {
             return Ok(false);
         };
-        self.list_to_change()?.push(sample)?;
+        self.samples.list_to_change()?.push(sample)?;
         Ok(true)
     }
 }

@@ -27,17 +27,6 @@ pub struct Rows {
     pub gap: Option<Gap>,
 }
 
-/// The numbers of the slots of dummy arguments.
-fn row_of(alloc: Global, sample: &Sample, dummies: &[Slots]) -> Result<Vec<i64>, AllocError> {
-    let mut row = Vec::new(alloc);
-    for slots in dummies {
-        for number in sample.held.iter().skip(slots.first).take(slots.count) {
-            row.push(*number)?;
-        }
-    }
-    Ok(row)
-}
-
 impl Rows {
     /// No rows yet, and at most so many. It takes no memory.
     pub fn new(alloc: Global, most: usize) -> Rows {
@@ -55,12 +44,17 @@ impl Rows {
     }
 
     /// Adds the row of a sample, if it is another one.
-    fn add(&mut self, alloc: Global, sample: &Sample, dummies: &[Slots]) -> Result<(), AllocError> {
-        if self.list.len() < self.most {
-            let row = row_of(alloc, sample, dummies)?;
-            if !self.list.contains(&row) {
-                self.list.push(row)?;
-            }
+    fn add(&mut self, sample: &Sample, dummies: &[Slots]) -> Result<(), AllocError> {
+        if self.list.len() >= self.most {
+            return Ok(());
+        }
+        let mut row = Vec::new(*self.list.allocator());
+        for slots in dummies {
+            let numbers = sample.held.iter().skip(slots.first);
+            row.extend(numbers.take(slots.count).copied())?;
+        }
+        if !self.list.contains(&row) {
+            self.list.push(row)?;
         }
         Ok(())
     }
@@ -69,7 +63,6 @@ impl Rows {
     /// where the walk was.
     pub(crate) fn add_all(
         &mut self,
-        alloc: Global,
         samples: &Samples,
         dummies: &[Slots],
     ) -> Result<(), AllocError> {
@@ -77,7 +70,7 @@ impl Rows {
         let list = samples.list()?;
         let on_path = list.iter().rev().filter(|sample| sample.is_on_path);
         for sample in on_path.chain(list.iter().rev()) {
-            self.add(alloc, sample, dummies)?;
+            self.add(sample, dummies)?;
         }
         Ok(())
     }

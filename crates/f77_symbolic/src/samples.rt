@@ -1,6 +1,5 @@
-//! Samples: numbers that slots may hold at the start. A sample that is on a path shows at once that the path is not
-//! refuted, so most questions need no refutation. Nothing is claimed of samples, and nothing follows from them but that
-//! something is not told.
+//! Samples: numbers that slots may hold at the start. One that is on a path shows at once that it is not refuted, so
+//! most questions need no refutation. Nothing is claimed of samples: they only keep something from being told.
 
 ghost use Rattle.std.specs.Prelude.{◌<◌};
 
@@ -28,75 +27,58 @@ const STATEMENTS: u64 = 12;
 const WRITES: u64 = 64;
 
 /// The numbers of slots, and the value of each atom, if it has one.
-#[derive(Drop)]
+#[derive(Clone, Drop)]
 pub struct Sample {
     pub held: Vec<i64>,
     pub values: Vec<Option<i64>>,
     pub is_on_path: bool,
 }
 
-/// The samples, where the walk is, and what it took. It all changes behind a shared reference, since nothing is claimed
-/// of it.
+/// The samples, where the walk is, and what it took: it changes behind a shared reference, since nothing is claimed.
 #[derive(Drop)]
 pub struct Samples {
     list: RefCell<Vec<Sample>>,
     /// Where the walk of both programs is, if there is one.
     pub(crate) gap: Cell<Option<Gap>>,
     /// What questions took since the last turn.
-    spent: Cell<u64>,
+    pub(crate) spent: Cell<u64>,
     /// Rows are asked for: more is tried to find a sample that shows where two programs differ.
     pub seeks: bool,
 }
 
-/// What a sample is to have: it is on a path, and a term has this sign there.
-#[derive(Clone, Copy)]
-pub struct Wanted<'a> {
-    pub table: &'a Table,
-    pub path: &'a Path,
-    pub term: &'a Term,
-    pub sign: Ordering,
-}
-
-/// The number, if there is one, has this sign.
-pub(crate) fn has_sign(number: Option<i64>, sign: Ordering) -> bool {
-    number.is_some_and(|z| z.cmp(&0) == sign)
-}
-
-/// There is a number, which has not this sign.
-fn lacks_sign(number: Option<i64>, sign: Ordering) -> bool {
-    number.is_some_and(|z| z.cmp(&0) != sign)
-}
-
 /// The number, if there is one, is in the range.
-fn is_in(number: Option<i64>, range: Range) -> bool {
+pub(crate) fn is_in(number: Option<i64>, range: Range) -> bool {
     number.is_some_and(|z| range.low <= z && z <= range.high)
 }
 
 impl Sample {
     /// The value of a term.
     pub(crate) fn value(&self, term: &Term) -> Option<i64> {
-        let mut sum = term.constant;
-        for part in &term.parts {
-            let value = (*self.values.get(part.atom)?)?;
-            sum = sum.checked_add(part.factor.checked_mul(value)?)?;
-        }
-        Some(sum)
+        term.parts.iter().try_fold(term.constant, |sum, part| {
+            sum.checked_add(part.factor.checked_mul((*self.values.get(part.atom)?)?)?)
+        })
     }
 
-    /// The slot that lies so far behind this one as the index says.
-    pub(crate) fn slot_behind(&self, first: usize, index: &Term) -> Option<usize> {
-        first.checked_add(usize::try_from(self.value(index)?).ok()?)
+    /// The slot that the atom with a key is of.
+    pub(crate) fn slot_of(&self, key: &Key) -> Option<usize> {
+        match key {
+            Key::Slot(slot) => Some(*slot),
+            Key::Element(first, index) => first.checked_add(self.value(index)?.try_into().ok()?),
+            Key::Function(..) => None,
+        }
     }
 
     /// The value of the atom with a key.
     fn key_value(&self, key: &Key) -> Option<i64> {
-        match key {
-            Key::Slot(slot) => self.held.get(*slot).copied(),
-            Key::Element(first, index) => self.held.get(self.slot_behind(*first, index)?).copied(),
-            Key::Function(Function::Quotient, a, b) => self.value(a)?.checked_div(self.value(b)?),
-            Key::Function(Function::Remainder, a, b) => self.value(a)?.checked_rem(self.value(b)?),
-            Key::Function(Function::Minimum, a, b) => Some(self.value(a)?.min(self.value(b)?)),
-            Key::Function(Function::Product, a, b) => self.value(a)?.checked_mul(self.value(b)?),
+        let Key::Function(function, a, b) = key else {
+            return self.held.get(self.slot_of(key)?).copied();
+        };
+        let (a, b) = (self.value(a)?, self.value(b)?);
+        match function {
+            Function::Quotient => a.checked_div(b),
+            Function::Remainder => a.checked_rem(b),
+            Function::Minimum => Some(a.min(b)),
+            Function::Product => a.checked_mul(b),
         }
     }
 
@@ -109,24 +91,14 @@ impl Sample {
         Ok(())
     }
 
-    /// The sample is on the path: the values are in their ranges, as far as there are both, and its terms have signs
-    /// that the path allows.
+    /// It is on the path: values are in their ranges, as far as there are both, and terms have signs that it allows.
     pub(crate) fn is_on(&self, path: &Path) -> bool {
         let mut ranged = self.values.iter().zip(&path.known);
         let mut unequal = path.unequal.iter();
         let mut below = path.below.iter();
         ranged.all(|(value, known)| known.map_or(true, |range| is_in(*value, range)))
-            && unequal.all(|term| lacks_sign(self.value(term), Ordering::Equal))
-            && below.all(|term| lacks_sign(self.value(term), Ordering::Greater))
-    }
-
-    /// A copy in memory of its own.
-    pub(crate) fn copied(&self, alloc: Global, is_on_path: bool) -> Result<Sample, AllocError> {
-        Ok(Sample {
-            held: self.held.to_vec(alloc)?,
-            values: self.values.to_vec(alloc)?,
-            is_on_path,
-        })
+            && unequal.all(|term| self.value(term).is_some_and(|z| z != 0))
+            && below.all(|term| self.value(term).is_some_and(|z| z <= 0))
     }
 }
 
@@ -143,24 +115,18 @@ fn any_number(chance: u64) -> i64 {
     }
 }
 
-/// The number, or the one between these that is as far behind the low one as this is behind a multiple of how many
-/// there are.
-fn between(z: i64, low: i64, high: i64) -> Option<i64> {
-    if low <= z && z <= high || low > high {
-        return Some(z);
-    }
-    let size = high.checked_sub(low)?.checked_add(1)?;
-    low.checked_add(z.checked_rem_euclid(size)?)
-}
-
-/// A number that a slot may hold; one that says that it holds a value; and behind these passes of a DO, or by how much
-/// it goes on.
+/// A number that a slot may hold; one that says that it holds a value; and behind these what a DO may have left.
 fn number_at(facts: &[Fact], slot: usize, any: i64) -> i64 {
-    match facts.get(slot) {
-        Some(fact) => between(any, fact.range.low, fact.range.high).unwrap_or(fact.range.low),
-        None if slot < facts.len().saturating_mul(2) => 1,
-        None => between(any, 1, 6).unwrap_or(1),
+    let (low, high) = match facts.get(slot) {
+        Some(fact) => (fact.range.low, fact.range.high),
+        None if slot < facts.len().saturating_mul(2) => (1, 1),
+        None => (1, 6),
+    };
+    if low <= any && any <= high {
+        return any;
     }
+    let size = high.saturating_sub(low).saturating_add(1);
+    low.saturating_add(any.checked_rem_euclid(size).unwrap_or(0))
 }
 
 /// The first samples of a program with so many statements, where this is known of its slots.
@@ -188,15 +154,6 @@ pub fn first_samples(
     Ok(Samples::of(list, seeks))
 }
 
-/// The samples in memory of their own, none of them on a path.
-pub(crate) fn copied_samples(alloc: Global, samples: &Samples) -> Result<Samples, AllocError> {
-    let mut list = Vec::new(alloc);
-    for sample in samples.list()?.iter() {
-        list.push(sample.copied(alloc, false)?)?;
-    }
-    Ok(Samples::of(list, samples.seeks))
-}
-
 impl Samples {
     /// These samples, with nothing spent.
     fn of(list: Vec<Sample>, seeks: bool) -> Samples {
@@ -206,6 +163,13 @@ impl Samples {
             spent: Cell::new(0),
             seeks,
         }
+    }
+
+    /// The samples in memory of their own, none of them on a path.
+    pub(crate) fn copied(&self) -> Result<Samples, AllocError> {
+        let mut list = self.list()?.clone()?;
+        list.iter_mut().for_each(|sample| sample.is_on_path = false);
+        Ok(Samples::of(list, self.seeks))
     }
 
     /// All of them. No other use of them is under way.
@@ -235,13 +199,7 @@ impl Samples {
         self.spent.set(self.spent.get().saturating_add(work));
     }
 
-    /// What questions took since the last turn.
-    pub(crate) fn take_spent(&self) -> u64 {
-        self.spent.replace(0)
-    }
-
-    /// What the questions of the last turn took, and what one from this side costs besides: more where more is known or
-    /// was written.
+    /// What the last questions took, and what a turn from this side costs: more where more is known or was written.
     pub fn cost(&self, path: &Path, side: &Side) -> u64
         ensures { 0 < result }
     {
@@ -251,30 +209,23 @@ impl Samples {
         let turn = (known as u64).saturating_add(LEAST_COST);
         turn.saturating_add(writes.saturating_mul(writes) / WRITES)
             .saturating_add(side.turns.len() as u64 / STATEMENTS)
-            .saturating_add(self.take_spent())
+            .saturating_add(self.spent.take())
     }
 
-    /// Those stay in which an atom is in a range.
-    pub(crate) fn stay(&self, atom: usize, range: Range) -> Result<(), AllocError> {
+    /// Those stay in which a term has a number like this.
+    pub(crate) fn keep<F: Fn(i64) -> bool>(&self, term: &Term, fits: F) -> Result<(), AllocError>
+        requires { F.IsAlwaysCallable fits }
+    {
         for sample in self.list_to_change()?.iter_mut() {
-            sample.is_on_path &= is_in(sample.values.get(atom).copied().flatten(), range);
-        }
-        Ok(())
-    }
-
-    /// Those stay in which a term has not this sign.
-    pub(crate) fn keep(&self, term: &Term, sign: Ordering) -> Result<(), AllocError> {
-        for sample in self.list_to_change()?.iter_mut() {
-            sample.is_on_path &= lacks_sign(sample.value(term), sign);
+            sample.is_on_path &= sample.value(term).is_some_and(&fits);
         }
         Ok(())
     }
 
     /// The values of new atoms are added.
     pub(crate) fn learn(&self, table: &Table) -> Result<(), AllocError> {
-        self.list_to_change()?
-            .iter_mut()
-            .try_for_each(|sample| sample.extend(table))
+        let mut list = self.list_to_change()?;
+        list.iter_mut().try_for_each(|sample| sample.extend(table))
     }
 
     /// Those that are on this path are chosen.
@@ -293,6 +244,7 @@ impl Samples {
     /// One that is on the path has this sign of a term.
     pub(crate) fn show(&self, term: &Term, sign: Ordering) -> Result<bool, AllocError> {
         let list = self.list()?;
-        Ok(list.iter().any(|sample| sample.is_on_path && has_sign(sample.value(term), sign)))
+        let mut on_path = list.iter().filter(|sample| sample.is_on_path);
+        Ok(on_path.any(|sample| sample.value(term).is_some_and(|z| z.cmp(&0) == sign)))
     }
 }

@@ -1,12 +1,12 @@
 //! Sides: states by terms, and where control goes from them.
 
-ghost use Rattle.std.specs.Prelude.{◌≡◌, is_some, option_map, slice_set, [], Option, IfOk};
+ghost use Rattle.std.specs.Prelude.{◌≡◌, option_map, slice_set, IfOk};
 ghost use Rattle.f77_code.specs.Moves as moves;
 ghost use Rattle.f77_symbolic.specs.Prelude.{Cells, state, site, Valuation};
 ghost use Rattle.f77_symbolic.specs.{AreInside, IsInside, cells_of, slot_of, content_of, turn_of, turns_of};
 ghost use Rattle.f77_symbolic.specs.code.{GoesTo};
 
-use crate::memory::{Location, Symbolic, Write, put};
+use crate::memory::{Location, Symbolic, Write, forget};
 use f77_actions::{Jump, Resolved};
 use f77_code::Place;
 use f77_terms::terms::Term;
@@ -24,41 +24,12 @@ pub struct SymbolicTurn {
 pub type ActiveTurn = Option<Shared<SymbolicTurn>>;
 
 /// A state: where control is, what was written to slots, and the active DOs. Sides share what no step has changed.
-#[derive(Drop)]
+#[derive(Clone, Drop)]
 pub struct Side {
     pub place: Place,
     pub writes: Shared<Vec<Shared<Write>>>,
     /// For each statement, what it has left if it is an active DO.
     pub turns: Shared<Vec<ActiveTurn>>,
-}
-
-impl Clone for Side {
-    ghost is_clone = { λ source copy. copy ≡ source };
-
-    fn clone(&self) -> Result<Side, AllocError> {
-        Ok(Side {
-            place: self.place,
-            writes: self.writes.clone()?,
-            turns: self.turns.clone()?,
-        })
-    }
-}
-
-/// The state at a place, where nothing was written and DOs have this left.
-pub(crate) fn first_side(
-    alloc: Global,
-    place: Place,
-    turns: Vec<ActiveTurn>,
-) -> Result<Side, AllocError>
-    ensures place { IfOk result (λ side. side.place ≡ place) }
-    ensures writes { IfOk result (λ side. side.writes.items ≡ []) }
-    ensures turns { IfOk result (λ side. side.turns ≡ turns) }
-{
-    Ok(Side {
-        place,
-        writes: Shared::new(alloc, Vec::new(alloc))?,
-        turns: Shared::new(alloc, turns)?,
-    })
 }
 
 /// What a step does.
@@ -72,43 +43,14 @@ pub enum Step {
 }
 
 /// What the DO of this number has left, if it is active.
-pub(crate) fn turn_at(turns: &[ActiveTurn], d: usize) -> Result<ActiveTurn, AllocError>
-    ensures { IfOk result (λ turn. (v : Valuation)
-        → moves.turn_at (turns_of v turns.now) d ≡ option_map (turn_of v) turn) }
+pub(crate) fn turn_at(turns: &[ActiveTurn], d: usize) -> Option<&SymbolicTurn>
+    ensures { (v : Valuation)
+        → moves.turn_at (turns_of v turns.now) d ≡ option_map (λ turn. turn_of v turn.now) result }
 {
     match turns.get(d) {
-        Some(Some(turn)) => Ok(Some(turn.clone()?)),
-        _ => Ok(None),
+        Some(Some(turn)) => Some(turn),
+        _ => None,
     }
-}
-
-/// The DO of this number is active.
-fn is_active(turns: &[ActiveTurn], d: usize) -> bool
-    ensures { (v : Valuation) → is_some (moves.turn_at (turns_of v turns.now) d) ≡ result }
-{
-    d < turns.len() && turns[d].is_some()
-}
-
-/// Sets what the DO of this number has left.
-fn set(turns: &mut [ActiveTurn], d: usize, turn: ActiveTurn)
-    ensures { (v : Valuation) → turns_of v turns.new
-        ≡ slice_set (turns_of v turns.old) d (option_map (turn_of v) turn) }
-{
-    if d < turns.len() {
-        turns[d] = turn;
-    }
-}
-
-/// The first of these DOs that is active.
-fn innermost(turns: &[ActiveTurn], ends: &[usize]) -> Option<usize>
-    ensures { (v : Valuation) → moves.innermost (turns_of v turns.now) ends.now ≡ result }
-{
-    for d in ends {
-        if is_active(turns, *d) {
-            return Some(*d);
-        }
-    }
-    None
 }
 
 /// Control goes on from a statement that did not jump.
@@ -116,34 +58,10 @@ pub(crate) fn go_on(side: &mut Side, resolved: &Resolved) -> Step
     ensures { (v : Valuation) → GoesTo v side.old side.new result
         (λ cells turns. moves.go_on resolved.now cells turns) }
 {
-    side.place = match innermost(&side.turns, &resolved.ends) {
-        Some(d) => Place::Increment(d),
-        None => Place::Execute(resolved.next),
-    };
+    let mut ends = resolved.ends.iter().copied();
+    let innermost = ends.find(|d| turn_at(&side.turns, *d).is_some());
+    side.place = innermost.map_or(Place::Execute(resolved.next), Place::Increment);
     Step::Moves
-}
-
-/// None of these DOs is active any more.
-fn leave(turns: &mut [ActiveTurn], leaves: &[usize])
-    ensures { (v : Valuation) → turns_of v turns.new ≡ moves.without (turns_of v turns.old) leaves.now }
-{
-    for d in leaves {
-        set(turns, *d, None);
-    }
-}
-
-/// The turns without those of these DOs.
-fn without(
-    alloc: Global,
-    turns: &[ActiveTurn],
-    leaves: &[usize],
-) -> Result<Shared<Vec<ActiveTurn>>, AllocError>
-    ensures { IfOk result (λ left. (v : Valuation)
-        → turns_of v left.items ≡ moves.without (turns_of v turns.now) leaves.now) }
-{
-    let mut left = turns.to_vec(alloc)?;
-    leave(&mut left, leaves);
-    Shared::new(alloc, left)
 }
 
 /// Control jumps.
@@ -151,8 +69,8 @@ pub(crate) fn jump(alloc: Global, side: &mut Side, to: &Jump) -> Result<Step, Al
     ensures { IfOk result (λ step. (v : Valuation)
         → GoesTo v side.old side.new step (λ cells turns. moves.jump_to to.now cells turns)) }
 {
-    if to.leaves.len() > 0 {
-        side.turns = without(alloc, &side.turns, &to.leaves)?;
+    for d in &to.leaves {
+        side.set_turn(alloc, *d, None)?;
     }
     side.place = Place::Execute(to.target);
     Ok(Step::Moves)
@@ -193,7 +111,8 @@ impl Side {
         ensures turns { self.new.turns ≡ self.old.turns }
     {
         let mut writes = self.writes.to_vec(alloc)?;
-        put(alloc, &mut writes, location, value)?;
+        forget(&mut writes, &location);
+        writes.push(Shared::new(alloc, Write { location, value })?)?;
         self.writes = Shared::new(alloc, writes)?;
         Ok(())
     }
@@ -210,7 +129,9 @@ impl Side {
         ensures writes { self.new.writes ≡ self.old.writes }
     {
         let mut turns = self.turns.to_vec(alloc)?;
-        set(&mut turns, d, turn);
+        if d < turns.len() {
+            turns[d] = turn;
+        }
         self.turns = Shared::new(alloc, turns)?;
         Ok(())
     }

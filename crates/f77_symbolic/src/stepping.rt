@@ -8,7 +8,7 @@ ghost use Rattle.f77_symbolic.specs.code.{Extends, Acts, AlwaysSteps, StepsFrom}
 use crate::evaluator::Evaluator;
 use crate::halt::{Halt, unless_unknown};
 use crate::memory::Symbolic;
-use crate::sides::{Side, Step, come_to, go_on, jump, turn_at};
+use crate::sides::{Side, Step, come_to, go_on, jump};
 use f77_actions::{Action, Condition, Element, Jump, Number, Resolved};
 use f77_code::Place;
 use f77_equivalence::ways::is_executed;
@@ -194,11 +194,7 @@ impl Evaluator {
                 unless_unknown(is_executed(&resolved.action))?;
                 self.act(side, statements, i, resolved, &resolved.action)
             }
-            Place::Increment(d) => {
-                let resolved = statement_at(statements, d)?;
-                let turn = turn_at(&side.turns, d)?.ok_or(Halt::Unknown)?;
-                self.increment(side, statements, d, &resolved.action, &turn)
-            }
+            Place::Increment(d) => self.increment(side, statements, d),
         }
     }
 

@@ -1,14 +1,13 @@
 //! Where the program comes by itself: it is walked alone once, for all its mutants.
 
-ghost use Rattle.std.specs.Prelude.{List, IfOk};
-ghost use Rattle.f77_symbolic.specs.Prelude.{Resolved};
-ghost use Rattle.f77_symbolic.specs.code.{Extends, AreExplored, Arrives, GivesWayAlone, Whichever};
-ghost use Rattle.f77_symbolic.specs.{AreVisits, IsTour};
+ghost use Rattle.std.specs.Prelude.{All, IfOk};
+ghost use Rattle.f77_symbolic.specs.code.{Extends, AreExplored, GivesWayAlone, Whichever};
+ghost use Rattle.f77_symbolic.specs.{AreVisits, IsToured};
 
 use crate::cuts::is_cut;
 use crate::evaluator::{Atoms, Evaluator};
-use crate::halt::{Halt, unless_unknown};
-use crate::samples::{Samples, first_samples};
+use crate::halt::{Halt, told, unless_unknown};
+use crate::samples::first_samples;
 use crate::sides::{Side, Step};
 use f77_actions::Resolved;
 use f77_code::Place;
@@ -26,58 +25,26 @@ pub struct Visit {
     pub side: Side,
 }
 
-/// What a walk of the program from one cut comes to before the next, and what is known where it comes to a cut.
-#[derive(Drop)]
-pub struct Visits {
-    pub atoms: Atoms,
-    pub samples: Samples,
-    pub list: Vec<Visit>,
-    pub arrivals: Vec<Entry>,
-}
-
-/// The walks from all cuts of a program.
-#[derive(Drop)]
-pub struct Tour {
-    pub each: Vec<Visits>,
-}
-
 /// A walk of the program: the visits to come and those that were made, and what is known where it came to cuts.
 #[derive(Drop)]
-pub(crate) struct Walk {
+pub struct Walk {
     pub todo: Vec<Visit>,
     pub list: Vec<Visit>,
     pub arrivals: Vec<Entry>,
 }
 
+/// A walk of the program from one cut that came to an end, and what it knows.
+#[derive(Drop)]
+pub struct Visits {
+    pub known: Evaluator,
+    pub walk: Walk,
+}
+
 #[tactic(auto, using(crate::proofs::Extending::extending))]
 impl Evaluator {
-    /// Where a step is no end, and the path may hold, it leads to a side: what is known there is noted at a cut, and
-    /// else the visit there is to come.
-    fn arrive(
-        &mut self,
-        cuts: &[Place],
-        step: Step,
-        side: Side,
-        walk: &mut Walk,
-    ) -> Result<(), Halt>
-        ensures arrives { IfOk result (λ _. (statements : List Resolved)
-            → Arrives statements cuts.now self.old step side walk.old walk.new) }
-        ensures extends { Extends self.old.atoms self.new.atoms }
-    {
-        if step != Step::Moves || self.is_dead()? {
-            return Ok(());
-        }
-        if is_cut(cuts, side.place) {
-            walk.arrivals.push(self.settled_entry(&side)?)?;
-            return Ok(());
-        }
-        let path = self.taken_path();
-        walk.todo.push(Visit { path, side })?;
-        Ok(())
-    }
-
-    /// The program makes a step alone: the visit is noted, and what the step leads to. Or the visit is split, or its
-    /// path does not hold.
+    /// The program makes a step alone, and the visit is noted. Where that is no end, and the path may hold, it leads to
+    /// a side: what is known there is noted at a cut, and else the visit there is to come. Or the visit is split, or
+    /// its path does not hold.
     fn step_alone(
         &mut self,
         statements: &[Shared<Resolved>],
@@ -92,7 +59,15 @@ impl Evaluator {
         match self.step_from(&visit.path, true, &visit.side, statements) {
             Ok((step, side)) => {
                 walk.list.push(visit)?;
-                self.arrive(cuts, step, side, walk)?;
+                if step != Step::Moves || self.is_dead()? {
+                    return Ok(());
+                }
+                if is_cut(cuts, side.place) {
+                    walk.arrivals.push(self.settled_entry(&side)?)?;
+                    return Ok(());
+                }
+                let path = self.taken_path();
+                walk.todo.push(Visit { path, side })?;
                 Ok(())
             }
             Err(halt) => {
@@ -156,23 +131,18 @@ fn visits_from(
     let samples = first_samples(alloc, &entry.facts, statements.len(), seeks)?;
     let facts = entry.facts.to_vec(alloc)?;
     let table = new_table(alloc);
-    let mut evaluator = Evaluator {
+    let mut known = Evaluator {
         alloc,
         atoms: Atoms { facts, table },
         path: new_path(alloc),
         own: true,
         samples,
     };
-    let first = evaluator.first_visit(statements.len(), entry.place, &entry.loops)?;
-    let walk = evaluator.walk_alone(statements, cuts, first, work)?;
-    unless_unknown(is_inside(&entry.facts, &evaluator.atoms.facts))?;
-    law_of_atoms(&evaluator.atoms.table);
-    Ok(Visits {
-        atoms: evaluator.atoms,
-        samples: evaluator.samples,
-        list: walk.list,
-        arrivals: walk.arrivals,
-    })
+    let first = known.first_visit(statements.len(), entry.place, &entry.loops)?;
+    let walk = known.walk_alone(statements, cuts, first, work)?;
+    unless_unknown(is_inside(&entry.facts, &known.atoms.facts))?;
+    law_of_atoms(&known.atoms.table);
+    Ok(Visits { known, walk })
 }
 
 /// What is known where a walk of the program from an entry comes to cuts, by so much work at most. None where it does
@@ -184,11 +154,8 @@ pub fn entries_behind(
     entry: &Entry,
     work: &mut u64,
 ) -> Result<Option<Vec<Entry>>, AllocError> {
-    match visits_from(alloc, statements, cuts, entry, work, false) {
-        Ok(visits) => Ok(Some(visits.arrivals)),
-        Err(Halt::Memory) => Err(AllocError),
-        Err(_) => Ok(None),
-    }
+    let visits = told(visits_from(alloc, statements, cuts, entry, work, false))?;
+    Ok(visits.map(|Visits { walk, .. }| walk.arrivals))
 }
 
 /// The walks from all entries of these places, by so much work at most. Where rows are to be sought, samples are.
@@ -199,16 +166,16 @@ pub(crate) fn tour_of(
     entries: &[Entry],
     mut work: u64,
     seeks: bool,
-) -> Result<Tour, Halt>
-    ensures { IfOk result (λ tour. IsTour statements.now cuts.now entries.now tour.each.items) }
+) -> Result<Vec<Visits>, Halt>
+    ensures { IfOk result (λ tour. All (IsToured statements.now cuts.now entries.now tour.items) entries.now) }
 {
-    let mut each = Vec::new(alloc);
+    let mut tour = Vec::new(alloc);
     for entry in entries {
         if is_cut(cuts, entry.place) {
             let visits = visits_from(alloc, statements, cuts, entry, &mut work, seeks)?;
-            unless_unknown(are_covered(entries, &visits.arrivals))?;
-            each.push(visits)?;
+            unless_unknown(are_covered(entries, &visits.walk.arrivals))?;
+            tour.push(visits)?;
         }
     }
-    Ok(Tour { each })
+    Ok(tour)
 }

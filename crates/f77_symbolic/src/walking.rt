@@ -1,20 +1,20 @@
 //! The walk of a program and a changed one: pair by pair, each of which gives way to those that its step leads to.
 
-ghost use Rattle.std.specs.Prelude.{◌≡◌, ◌≤ℤ◌, ◌⊎◌, pos, false, true, IfNone, IfOk, IfSome};
-ghost use Rattle.f77_symbolic.specs.Prelude.{Finish, CheckedFields, Holds, Valuation};
-ghost use Rattle.f77_symbolic.specs.{Interprets, AreInside, Start, state_of};
-ghost use Rattle.f77_symbolic.specs.code.{Extends, Always, AreSettled, EndsSo, GivesWay};
-ghost use Rattle.f77_symbolic.specs.code.{IsReady, IsThere, RestsOn, IsEndOf};
+ghost use Rattle.std.specs.Prelude.{◌≡◌, ◌⊎◌, true, false, is_some, IfNone, IfOk, IfSome};
+ghost use Rattle.f77_symbolic.specs.Prelude.{Holds, Valuation};
+ghost use Rattle.f77_symbolic.specs.code.{Extends, AreSettled, ComesToEnd, GivesWay, RestsOn};
 
 use crate::change::Change;
-use crate::evaluator::Evaluator;
-use crate::halt::{Halt, Split, is_shown, unless_unknown};
+use crate::evaluator::{Evaluator, add_other_sign};
+use crate::halt::{Halt, told, unless_unknown};
 use crate::sides::{Side, Step, statement_of};
 use f77_actions::{Action, Resolved};
 use f77_code::Place;
-use f77_terms::paths::{Path, add_below, add_equal, add_unequal, copied_path, new_path, settle};
+use f77_terms::paths::{Path, add_below, add_equal, copied_path, new_path, settle};
+use f77_terms::terms::Term;
 use f77_tree::Shared;
 use std::alloc::AllocError;
+use std::cmp::Ordering;
 use std::mem;
 
 /// The changed program may be so many steps behind at most.
@@ -32,22 +32,18 @@ pub struct Pair {
     pub fresh: bool,
 }
 
-/// The path on each of the two ways.
-fn split_path(path: &Path, split: &Split) -> Result<(Path, Path), AllocError>
+/// The path where the term has this sign, and the one where it has not.
+fn split_path(path: &Path, term: &Term, sign: Ordering) -> Result<(Path, Path), AllocError>
     ensures { IfOk result (λ ways. (v : Valuation) → Holds v path.now → Holds v ways.0 ⊎ Holds v ways.1) }
 {
     let mut first = copied_path(path)?;
     let mut second = copied_path(path)?;
-    match split {
-        Split::Sign(term) => {
-            add_below(&mut first, 1, term, 1)?;
-            add_below(&mut second, -1, term, 0)?;
-        }
-        Split::Zero(term) => {
-            add_equal(&mut first, term)?;
-            add_unequal(&mut second, term)?;
-        }
+    match sign {
+        Ordering::Less => add_below(&mut first, 1, term, 1)?,
+        Ordering::Equal => add_equal(&mut first, term)?,
+        Ordering::Greater => add_below(&mut first, -1, term, 1)?,
     }
+    add_other_sign(&mut second, term, sign)?;
     settle(&mut first);
     settle(&mut second);
     Ok((first, second))
@@ -56,15 +52,15 @@ fn split_path(path: &Path, split: &Split) -> Result<(Path, Path), AllocError>
 /// Where a place stands in the text: that of a DO that is incremented behind its last statement, and RETURN and STOP
 /// behind all.
 fn order_of(statements: &[Shared<Resolved>], place: Place) -> usize {
-    match place {
-        Place::Execute(i) if i < statements.len() => match &statements[i].action {
-            Action::Return | Action::Stop => usize::MAX,
-            _ => i.saturating_mul(2),
-        },
-        Place::Increment(d) if d < statements.len() => match &statements[d].action {
-            Action::Loop { terminal, .. } => terminal.saturating_mul(2).saturating_add(1),
-            _ => 0,
-        },
+    let Some(resolved) = statements.get(statement_of(place)) else {
+        return 0;
+    };
+    match (place, &resolved.action) {
+        (Place::Execute(_), Action::Return | Action::Stop) => usize::MAX,
+        (Place::Execute(i), _) => i.saturating_mul(2),
+        (Place::Increment(_), Action::Loop { terminal, .. }) => terminal
+            .saturating_mul(2)
+            .saturating_add(1),
         _ => 0,
     }
 }
@@ -79,61 +75,31 @@ impl Evaluator {
         mem::replace(&mut self.path, new_path(self.alloc))
     }
 
-    /// They met, and the changed program made no more steps. It is false too where that is not told.
-    fn is_met(&mut self, pair: &Pair) -> Result<bool, Halt>
-        ensures made { IfOk result
-            (λ yes. yes ≡ true → (pair.now.fresh ≡ false) × (pos 0 ≤ℤ pair.now.credit)) }
-        ensures met { IfOk result (λ yes. yes ≡ true → (start : Start) (v : Valuation)
-            → Interprets self.new.atoms start v → IsThere v pair.now
-            → state_of start.cells v pair.now.right ≡ state_of start.cells v pair.now.left) }
+    /// The changed program makes a step: how it ends by it, or the pair behind it.
+    fn other_step(&mut self, change: &Change, pair: &Pair) -> Result<(Step, Option<Pair>), Halt>
+        ensures rests { IfOk result (λ found. is_some found.1 ≡ true
+            → RestsOn self.new.atoms change.now found.1 pair.now) }
+        ensures ends { IfOk result (λ found. is_some found.1 ≡ false
+            → ComesToEnd change.now self.new found.0 pair.now) }
         ensures extends { Extends self.old.atoms self.new.atoms }
     {
-        if pair.fresh || pair.credit < 0 {
-            return Ok(false);
-        }
-        Ok(is_shown(self.show_same_state(pair))?)
-    }
-
-    /// Whether the changed program ends as the program does with this step, and the dummy arguments hold the same. It
-    /// is false where it does not end.
-    fn is_end_alike(&mut self, change: &Change, pair: &Pair, step: Step) -> Result<bool, Halt>
-        ensures ends { IfOk result (λ yes. yes ≡ true → (checked : CheckedFields) (finish : Finish)
-            → IsReady checked change.now → IsEndOf step finish → Always self.old self.new (λ start v.
-            AreInside v pair.now.left.writes.items → AreInside v pair.now.right.writes.items
-            → EndsSo checked change.now finish start v pair.now)) }
-        ensures extends { Extends self.old.atoms self.new.atoms }
-    {
-        let path = self.taken_path();
-        let (other, _after) = self.step_from(&path, false, &pair.right, &change.statements)?;
-        if other == Step::Moves {
-            return Ok(false);
-        }
-        unless_unknown(other == step)?;
-        self.show_same(&pair.left.writes, &pair.right.writes, Some(&change.dummies))?;
-        Ok(true)
-    }
-
-    /// The changed program makes a step, which is no end.
-    fn other_step(&mut self, change: &Change, pair: &Pair) -> Result<Option<Pair>, Halt>
-        ensures rests { IfOk result (λ next. RestsOn self.new.atoms change.now next pair.now) }
-        ensures extends { Extends self.old.atoms self.new.atoms }
-    {
-        unless_unknown(pair.credit > -MOST_SPARE)?;
         let (step, right) = self.step_from(&pair.path, false, &pair.right, &change.statements)?;
-        match step {
-            Step::Moves => Ok(Some(Pair {
-                path: self.taken_path(),
-                left: pair.left.clone()?,
-                right,
-                credit: pair.credit - 1,
-                fresh: pair.fresh,
-            })),
-            Step::Returns | Step::Stops | Step::Faults => Err(Halt::Unknown),
+        if step != Step::Moves {
+            return Ok((step, None));
         }
+        unless_unknown(pair.credit > -MOST_SPARE)?;
+        let next = Pair {
+            path: self.taken_path(),
+            left: pair.left.clone()?,
+            right,
+            credit: pair.credit - 1,
+            fresh: pair.fresh,
+        };
+        Ok((step, Some(next)))
     }
 
-    /// The program makes a step, and the changed one may make one more. Where the program ends and the changed one does
-    /// not, that goes on.
+    /// The program makes a step. Where that is its end the changed one makes one more: it ends alike, and the dummy
+    /// arguments hold the same, or goes on.
     fn own_turn(&mut self, change: &Change, pair: &Pair) -> Result<Option<Pair>, Halt>
         ensures rests { IfOk result (λ next. RestsOn self.new.atoms change.now next pair.now) }
         ensures extends { Extends self.old.atoms self.new.atoms }
@@ -149,10 +115,13 @@ impl Evaluator {
             })),
             Step::Faults => Ok(None),
             Step::Returns | Step::Stops => {
-                if self.is_end_alike(change, pair, step)? {
-                    return Ok(None);
+                let (other, next) = self.other_step(change, pair)?;
+                if next.is_some() {
+                    return Ok(next);
                 }
-                self.other_step(change, pair)
+                unless_unknown(other == step)?;
+                self.show_same(&pair.left.writes, &pair.right.writes, Some(&change.dummies))?;
+                Ok(None)
             }
         }
     }
@@ -162,43 +131,31 @@ impl Evaluator {
         ensures rests { IfOk result (λ next. RestsOn self.new.atoms change.now next pair.now) }
         ensures extends { Extends self.old.atoms self.new.atoms }
     {
-        let (step, _after) = self.step_from(&pair.path, false, &pair.right, &change.statements)?;
-        if step == Step::Moves {
-            return self.other_step(change, pair);
+        let (_end, next) = self.other_step(change, pair)?;
+        if next.is_some() {
+            return Ok(next);
         }
         self.own_turn(change, pair)
     }
 
-    /// The program makes a step, and then the changed one, if it did not yet.
-    fn both_turn(&mut self, change: &Change, pair: &Pair) -> Result<Option<Pair>, Halt>
-        ensures rests { IfOk result (λ next. RestsOn self.new.atoms change.now next pair.now) }
-        ensures extends { Extends self.old.atoms self.new.atoms }
-    {
-        let Some(next) = self.own_turn(change, pair)? else {
-            return Ok(None);
-        };
-        if next.credit <= pair.credit {
-            return Ok(Some(next));
-        }
-        self.other_turn(change, &next)
-    }
-
-    /// The pair that the next step leads to, if there is more to show.
+    /// The pair that the next step leads to, if there is more to show. Where both are at one place, both make a step.
     fn next_pair(&mut self, change: &Change, pair: &Pair) -> Result<Option<Pair>, Halt>
         ensures rests { IfOk result (λ next. RestsOn self.new.atoms change.now next pair.now) }
         ensures extends { Extends self.old.atoms self.new.atoms }
     {
-        if self.is_met(pair)? {
+        if told(self.show_met(pair))?.is_some() {
             return Ok(None);
         }
-        if pair.left.place == pair.right.place {
-            return self.both_turn(change, pair);
-        }
         let own = order_of(&change.own, pair.left.place);
-        if own <= order_of(&change.own, pair.right.place) {
-            return self.own_turn(change, pair);
+        if own > order_of(&change.own, pair.right.place) {
+            return self.other_turn(change, pair);
         }
-        self.other_turn(change, pair)
+        match self.own_turn(change, pair)? {
+            Some(next) if pair.left.place == pair.right.place && next.credit > pair.credit => {
+                self.other_turn(change, &next)
+            }
+            next => Ok(next),
+        }
     }
 
     /// The two paths into which one is split. None where nothing is told of it: then it is refuted.
@@ -209,7 +166,7 @@ impl Evaluator {
         ensures extends { Extends self.old.atoms self.new.atoms }
     {
         match halt {
-            Halt::Split(split) => Ok(Some(split_path(path, &split)?)),
+            Halt::Split(term, sign) => Ok(Some(split_path(path, &term, sign)?)),
             Halt::Unknown => {
                 self.come_on(path)?;
                 unless_unknown(self.is_dead()?)?;

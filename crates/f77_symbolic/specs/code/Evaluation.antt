@@ -6,7 +6,6 @@ use Rattle.f77_actions.specs.declared.finish.Fault.{Fault}
 use Rattle.f77_symbolic.specs.Prelude.{Value, held_in, Cells, Holds, Valuation, sum_value, Evaluator, Location}
 use Rattle.f77_symbolic.specs.Prelude.{Symbolic, Write}
 use Rattle.f77_terms.specs.declared.terms.Term.{Term}
-use Rattle.f77_symbolic.specs.declared.arithmetic.Division.{Division}
 use Rattle.f77_symbolic.specs.{Interprets, AreInside, IsInside, Start, cells_of, slot_of, content_of}
 
 -- the new path holds, and the evaluator is of the same program
@@ -76,9 +75,9 @@ Expects old new Claim =
     (v : Valuation) → Holds v old.path → (Claim v → StaysOn v old new) × ((old.own ≡ true) ⊎ Claim v)
 
 -- these are the quotient and what is left
-pub record IsDivision (v : Valuation) (division : Division) (a b : ℤ) : Type 0 where
-  pub quotient : sum_value v division.quotient ≡ int_div a b
-  pub remainder : sum_value v division.remainder ≡ int_rem a b
+pub record IsDivision (v : Valuation) (division : Term × Term) (a b : ℤ) : Type 0 where
+  pub quotient : sum_value v division.0 ≡ int_div a b
+  pub remainder : sum_value v division.1 ≡ int_rem a b
 
 -- one of so many items has the number, counted from 1, or none has
 abbrev pub HasItem : Option ℕ → ℕ → ℤ → Type 0

@@ -1,7 +1,7 @@
 -- What slots hold where some were written to, by terms over what they held at the start.
 -- Private functions and proofs alone cite what stands here.
-use Rattle.std.specs.Prelude.{◌≡◌, ◌≤◌, ◌<◌, ◌+◌, ℕ, List, Any, length, Option, Some, None, slice_get}
-use Rattle.f77_symbolic.specs.Prelude.{CheckedFields, held_in, Cells, AreIn, SuitsFact, Write}
+use Rattle.std.specs.Prelude.{◌≡◌, ◌≤◌, ◌<◌, ◌+◌, ℕ, List, Any, length, Option, Some, None}
+use Rattle.f77_symbolic.specs.Prelude.{CheckedFields, held_in, Cells, AreIn, SuitsFact}
 use Rattle.f77_check.specs.declared.checked.Shape.{Shape}
 use Rattle.f77_equivalence.specs.code.StartSlots.{IsOfDummy}
 use Rattle.f77_facts.specs.declared.facts.Fact.{Fact}
@@ -11,12 +11,6 @@ use Rattle.f77_facts.specs.declared.assigning.Slots.{Slots}
 pub record IsKnownAt (facts : List Fact) (slot : ℕ) (fact : Fact) : Type 0 where
   pub within : slot < length facts
   pub suits : (cells : Cells) → AreIn facts cells → SuitsFact fact (held_in cells slot)
-
--- the write of this number is to this one slot
-abbrev pub IsWriteTo : List Write → ℕ → ℕ → Type 0
-IsWriteTo writes place slot =
-    (write : Write) × (slice_get writes place ≡ Some write) × (write.location.first ≡ slot)
-    × (write.location.count ≡ 1)
 
 -- the slot is one of these
 abbrev pub IsSlotOf : ℕ → List Slots → Type 0

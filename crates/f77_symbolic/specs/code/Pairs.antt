@@ -1,10 +1,11 @@
 -- What the walk of a program and a changed one is to show.
 -- Private functions and proofs alone cite what stands here.
 use Rattle.std.specs.Prelude.{◌≡◌, ◌≤◌, ◌+ℤ◌, ◌≤ℤ◌, ℕ, ℤ, pos, All, IfSome, List, Option, Some}
-use Rattle.f77_symbolic.specs.Prelude.{Finish, CheckedFields, IsChecked, Cells, Ends, moved, AgreeBut, PassAlike}
-use Rattle.f77_symbolic.specs.Prelude.{HoldAlike, Holds, Valuation, Change, Atoms, Pair}
+use Rattle.f77_symbolic.specs.Prelude.{Finish, CheckedFields, IsChecked, Ends, moved, AgreeBut, PassAlike, Holds}
+use Rattle.f77_symbolic.specs.Prelude.{Valuation, Change, Atoms, Evaluator, Pair, Step}
 use Rattle.f77_symbolic.specs.{together, FollowsByKeys, Interprets, AreInside, Start, cells_of, state_of}
 use Rattle.f77_symbolic.specs.code.Memory.{HaveDummies}
+use Rattle.f77_symbolic.specs.code.Sides.{IsEndOf}
 
 -- the changed statement alone is another one, DOs pass it alike, and these are the dummy arguments
 pub record IsReady (checked : CheckedFields) (change : Change) : Type 0 where
@@ -61,8 +62,9 @@ abbrev pub AreSettled : Atoms → Change → ℕ → List Pair → Type 0
 AreSettled atoms change behind list = Whatever atoms change (λ spare checked start v. behind ≤ spare
     → All (IsSettled spare checked change start v) list)
 
--- the changed program ends so from there, and the dummy arguments hold the same
-abbrev pub EndsSo : CheckedFields → Change → Finish → Start → Valuation → Pair → Type 0
-EndsSo checked change finish start v pair = (others : Cells)
-    × (moved change.statements.items (state_of start.cells v pair.right) ≡ Some (Ends finish others))
-    × HoldAlike checked (cells_of start.cells v pair.left.writes.items) others
+-- where the path holds, the changed program ends so, if this is its step, and slots hold what they did
+abbrev pub ComesToEnd : Change → Evaluator → Step → Pair → Type 0
+ComesToEnd change new made pair = (start : Start) (v : Valuation) (finish : Finish) → Interprets new.atoms start v
+    → IsThere v pair → IsEndOf made finish → Holds v new.path
+    × (moved change.statements.items (state_of start.cells v pair.right)
+    ≡ Some (Ends finish (cells_of start.cells v pair.right.writes.items)))

@@ -1,11 +1,9 @@
 -- States by terms, and a step from there.
 -- Private functions and proofs alone cite what stands here.
-use Rattle.std.specs.Prelude.{◌≡◌, ◌+◌, ℕ, zero, suc, ℤ, Bool, true, List, Option, Some, None, slice_set}
+use Rattle.std.specs.Prelude.{◌≡◌, ℕ, Bool, true, List, Option, Some, None}
 use Rattle.f77_actions.specs.declared.action.Action.{Action}
-use Rattle.f77_symbolic.specs.Prelude.{Finish, Resolved, Cells, Turn, TurnList, Move, Goes, Ends, acted, state}
+use Rattle.f77_symbolic.specs.Prelude.{Finish, Resolved, Cells, TurnList, Move, Goes, Ends, acted}
 use Rattle.f77_symbolic.specs.Prelude.{Holds, Valuation, Evaluator, Side, Step}
-use Rattle.f77_code.specs.Moves.{go_on}
-use Rattle.f77_code.specs.declared.control.Place.TheVariants.{Execute}
 use Rattle.f77_actions.specs.declared.finish.Finish.TheVariants.{Returned, Stopped, Failed}
 use Rattle.f77_terms.specs.declared.paths.Path.{Path}
 use Rattle.f77_symbolic.specs.declared.sides.Step.TheVariants as step
@@ -54,14 +52,3 @@ pub record GoesTo (v : Valuation) (before after : Side) (made : Step)
   pub goes : (start : Cells) → move (cells_of start v before.writes.items) (turns_of v before.turns.items)
       ≡ Goes (state_of start v after)
   pub writes : after.writes ≡ before.writes
-
--- what so many passes leave to a DO
-abbrev pub left_of : ℕ → ℤ → Option Turn
-left_of zero step = None
-left_of (suc k) step = Some (record { passes = suc k; step = step })
-
--- the DO d, which ends at this statement, has this left
-abbrev pub move_with : Resolved → ℕ → Option Turn → Cells → TurnList → Move
-move_with end d None cells turns = go_on end cells (slice_set turns d None)
-move_with end d (Some turn) cells turns =
-    Goes (state (Execute (d + 1)) cells (slice_set turns d (Some turn)))

@@ -1,12 +1,11 @@
 -- What the walk of the program alone comes to.
 -- Private functions and proofs alone cite what stands here.
 use Rattle.std.specs.Prelude.{◌≡◌, ◌≤◌, ℕ, true, false, All, Contains, List, Some}
-use Rattle.f77_symbolic.specs.Prelude.{Resolved, Place, State, Goes, moved, CheckedFields, site, Entry, IsAmong, Holds}
-use Rattle.f77_symbolic.specs.Prelude.{Valuation, Atoms, Evaluator, Side, Pair, Step, Visit, Visits, Change}
-use Rattle.f77_symbolic.specs.declared.sides.Step.TheVariants as step
+use Rattle.f77_symbolic.specs.Prelude.{Resolved, Place, State, Goes, moved, CheckedFields, site, Entry, IsAmong}
+use Rattle.f77_symbolic.specs.Prelude.{Valuation, Atoms, Pair, Visit, Visits, Change}
 use Rattle.f77_symbolic.specs.declared.visiting.Walk.{Walk}
-use Rattle.f77_symbolic.specs.{IsAtSite, IsFirst, machine, together, FollowsByKeys, IsReachable, Interprets, AreInside}
-use Rattle.f77_symbolic.specs.{Start, state_of, AreVisits, IsOfEntry, IsVisit, IsVisitNoted, LeadsTo, is_cut_in}
+use Rattle.f77_symbolic.specs.{IsAtSite, IsFirst, machine, together, FollowsByKeys, IsReachable, Interprets}
+use Rattle.f77_symbolic.specs.{Start, AreVisits, IsOfEntry, IsVisit, IsVisitNoted, LeadsTo, is_cut_in}
 use Rattle.f77_symbolic.specs.code.Pairs.{IsReady, IsSettled}
 
 -- what is known of the state is among the arrivals
@@ -41,14 +40,6 @@ pub record IsPartOf (statements : List Resolved) (places : List Place) (whole : 
 -- whatever the atoms mean
 abbrev pub Whichever : Atoms → (Start → Valuation → Type 0) → Type 0
 Whichever atoms Claim = (start : Start) (v : Valuation) → Interprets atoms start v → Claim start v
-
--- Where the new walk is part of a whole one, so is the old one. And where a step is made to the side, and the path of
--- the evaluator holds, the state there is met or explored.
-abbrev pub Arrives : List Resolved → List Place → Evaluator → Step → Side → Walk → Walk → Type 0
-Arrives statements places evaluator made side old new = Whichever evaluator.atoms (λ start v. (whole : Walk)
-    → IsPartOf statements places whole start v new → IsPartOf statements places whole start v old
-    × (made ≡ step.Moves → Holds v evaluator.path → AreInside v side.writes.items
-    → IsMetOrExplored statements places whole start v (state_of start.cells v side)))
 
 -- where the new walk is part of a whole one, so is the old one, and all is explored from this visit
 abbrev pub GivesWayAlone : Atoms → List Resolved → List Place → Walk → Walk → Visit → Type 0

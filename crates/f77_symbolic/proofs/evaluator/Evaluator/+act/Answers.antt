@@ -1,6 +1,5 @@
-use Rattle.f77_symbolic.proofs.Common.{Cells, TurnList, Move, Goes, truth_in, acted, go_on, jump_chosen, state, Execute, ok_then, refl}
-use Rattle.f77_symbolic.proofs.Extending.{extends_same}
-use Rattle.f77_symbolic.proofs.Steps.{goes_always, yield_steps}
+use Rattle.f77_symbolic.proofs.Common.{Goes, truth_in, acted, go_on, jump_chosen, state, Execute, ok_then, refl}
+use Rattle.f77_symbolic.proofs.Steps.{goes_always, yield_goes, yield_steps}
 use Rattle.f77_symbolic.proofs.evaluator.Evaluator.+act.Goals as goal
 
 pub returns-then-branch-clause-steps : goal.returns-then-branch-clause-steps
@@ -16,38 +15,32 @@ returns-then-branch-clause-steps t c =
 
 pub returns-else-branch-clause-steps : goal.returns-else-branch-clause-steps
 returns-else-branch-clause-steps t c =
-    let new = c.truth_of.new.self in
     rw c.in-LogicalIf.is
-    (yield_steps c.args.self.now new new c.args.side.now c.go_on.new.side c.go_on.result (λ cells. truth_in cells c.in-LogicalIf.condition)
+    (yield_goes c.args.self.now c.truth_of.new.self c.args.side.now c.go_on.new.side c.go_on.result (λ cells. truth_in cells c.in-LogicalIf.condition)
     (λ v. c.in_ok-truth_of-in-LogicalIf.field-0)
-    (λ v b cells turns.
+    (λ b cells turns.
     jump_chosen b (acted c.args.statements.now c.args.i c.args.resolved.now c.in-LogicalIf.action.value cells turns) (go_on c.args.resolved.now cells turns))
-    (extends_same new.atoms) (rw (c.deref-in-LogicalIf.ensures.value, c.deref.ensures) at c.in_ok-truth_of-in-LogicalIf.ensures.yields)
-    (rw c.if-branch.false (goes_always new c.args.side.now c.go_on.new.side c.go_on.result (go_on c.args.resolved.now) (λ v. go_on c.args.resolved.now)
-    c.go_on.ensures (λ v holds cells turns. refl))))
+    (go_on c.args.resolved.now) (rw (c.deref-in-LogicalIf.ensures.value, c.deref.ensures) at c.in_ok-truth_of-in-LogicalIf.ensures.yields)
+    c.go_on.ensures (λ v holds cells turns. rw c.if-branch.false refl))
 
 pub returns-then-branch-2-clause-steps : goal.returns-then-branch-2-clause-steps
 returns-then-branch-2-clause-steps t c =
-    let new = c.truth_of-in-Branch.new.self in
     rw c.in-Branch.is
-    (yield_steps c.args.self.now new new c.args.side.now c.go_on-then-branch-2.new.side c.go_on-then-branch-2.result
+    (yield_goes c.args.self.now c.truth_of-in-Branch.new.self c.args.side.now c.go_on-then-branch-2.new.side c.go_on-then-branch-2.result
     (λ cells. truth_in cells c.in-Branch.condition) (λ v. c.in_ok-truth_of-in-Branch.field-0)
-    (λ v b cells turns. jump_chosen b (go_on c.args.resolved.now cells turns) (Goes (state (Execute c.in-Branch.otherwise) cells turns)))
-    (extends_same new.atoms) (rw (c.deref-in-Branch-2.ensures.value, c.deref-in-Branch.ensures) at c.in_ok-truth_of-in-Branch.ensures.yields)
-    (rw c.if-branch-2.true (goes_always new c.args.side.now c.go_on-then-branch-2.new.side c.go_on-then-branch-2.result (go_on c.args.resolved.now)
-    (λ v. go_on c.args.resolved.now) c.go_on-then-branch-2.ensures (λ v holds cells turns. refl))))
+    (λ b cells turns. jump_chosen b (go_on c.args.resolved.now cells turns) (Goes (state (Execute c.in-Branch.otherwise) cells turns)))
+    (go_on c.args.resolved.now) (rw (c.deref-in-Branch-2.ensures.value, c.deref-in-Branch.ensures) at c.in_ok-truth_of-in-Branch.ensures.yields)
+    c.go_on-then-branch-2.ensures (λ v holds cells turns. rw c.if-branch-2.true refl))
 
 pub returns-else-branch-2-clause-steps : goal.returns-else-branch-2-clause-steps
 returns-else-branch-2-clause-steps t c =
-    let new = c.truth_of-in-Branch.new.self in
-    let there : Cells → TurnList → Move = λ cells turns. Goes (state (Execute c.in-Branch.otherwise) cells turns) in
     rw c.in-Branch.is
-    (yield_steps c.args.self.now new new c.args.side.now c.come_to.new.side c.come_to.result
+    (yield_goes c.args.self.now c.truth_of-in-Branch.new.self c.args.side.now c.come_to.new.side c.come_to.result
     (λ cells. truth_in cells c.in-Branch.condition) (λ v. c.in_ok-truth_of-in-Branch.field-0)
-    (λ v b cells turns. jump_chosen b (go_on c.args.resolved.now cells turns) (there cells turns))
-    (extends_same new.atoms) (rw (c.deref-in-Branch-2.ensures.value, c.deref-in-Branch.ensures) at c.in_ok-truth_of-in-Branch.ensures.yields)
-    (rw c.if-branch-2.false (goes_always new c.args.side.now c.come_to.new.side c.come_to.result there (λ v. there) c.come_to.ensures
-    (λ v holds cells turns. refl))))
+    (λ b cells turns. jump_chosen b (go_on c.args.resolved.now cells turns) (Goes (state (Execute c.in-Branch.otherwise) cells turns)))
+    (λ cells turns. Goes (state (Execute c.in-Branch.otherwise) cells turns))
+    (rw (c.deref-in-Branch-2.ensures.value, c.deref-in-Branch.ensures) at c.in_ok-truth_of-in-Branch.ensures.yields)
+    c.come_to.ensures (λ v holds cells turns. rw c.if-branch-2.false refl))
 
 pub returns-in-AssignNumber-clause-steps : goal.returns-in-AssignNumber-clause-steps
 returns-in-AssignNumber-clause-steps t c =

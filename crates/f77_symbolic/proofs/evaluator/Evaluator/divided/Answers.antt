@@ -12,5 +12,5 @@ returns-clause-divides c start v interprets holds apart =
     let product = c.in_ok-product.ensures.tells start v interprets stays.holds in
     let whole = product.1 ∙ ap (λ z. z *ℤ sum_value v c.args.b.now) quotient in (
       record { holds = c.in_ok-know_division.ensures v (sum_value v c.args.b.now) product.0.holds whole second.1; own = product.0.own ∙ stays.own },
-      record { quotient = quotient; remainder = c.in_ok-remainder-2.ensures v ∙ second.1 },
+      record { quotient = quotient; remainder = c.in_ok-atom_term.ensures v ∙ second.1 },
     )

@@ -1,4 +1,6 @@
 use Rattle.f77_symbolic.proofs.Common.{◌≤◌, ◌<◌, ◌∙◌, ap, length, arith, sym, subst, take_all, Holds, turns_of, AreTurnNumbers}
+use Rattle.f77_symbolic.proofs.Common.{Vec, Write}
+use Rattle.std.specs.declared.alloc.Global.{Global}
 use Rattle.f77_symbolic.proofs.Entered.{turns_next, visit_first}
 use Rattle.f77_symbolic.proofs.Extending.{extends_then}
 use Rattle.f77_symbolic.proofs.evaluator.Evaluator.first_visit.Goals as goal
@@ -26,6 +28,5 @@ returns-clause-first c start v is holds s cells numbers place left =
     let at = c.loop-d.invariant.stands start v (c.taken_path-path.ensures.extends.back start v is) holds s.turns numbers left in
     let long = left.count in
     let all : length s.turns ≤ c.loop-d.d = omega arith in
-    visit_first start v s (record { path = c.taken_path-path.result; side = c.in_ok-side.side })
-    (subst (Holds v) (sym c.taken_path-path.ensures.path) at.0) c.in_ok-side.ensures.writes cells (c.in_ok-side.ensures.place ∙ place)
-    (ap (λ turns. turns_of v turns.items) c.in_ok-side.ensures.turns ∙ (at.1 ∙ take_all c.loop-d.d s.turns all))
+    visit_first start v s _ (subst (Holds v) (sym c.taken_path-path.ensures.path) at.0) (ap (λ (writes : Vec Write Global). writes.items) c.in_ok-new.ensures ∙ c.new.ensures.items) cells place
+    (ap (λ turns. turns_of v turns.items) c.in_ok-new-2.ensures ∙ (at.1 ∙ take_all c.loop-d.d s.turns all))

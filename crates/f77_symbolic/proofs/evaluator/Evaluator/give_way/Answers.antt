@@ -1,5 +1,5 @@
 use Rattle.f77_symbolic.proofs.Common.{arith, ints, rules, SFits, w64, Option, Some, inl, inr, refl, subst, All-pop, Pair, IsSettled, RestsOn}
-use Rattle.f77_symbolic.proofs.Settling.{follows_so}
+use Rattle.f77_symbolic.proofs.Settling.{follows_so, side_same}
 use Rattle.f77_symbolic.proofs.evaluator.Evaluator.give_way.Goals as goal
 
 pub returns-in-Ok-Some-clause-gives : goal.returns-in-Ok-Some-clause-gives
@@ -27,7 +27,7 @@ returns-clause-gives c spare checked start v ready there within all =
       before.0,
       λ room has here. elim (split v here.holds) [
         | inl on ↦ follows_so spare checked change start v _ before.1 pair.fresh room pair.left pair.right (omega (arith, ints, has, own)) refl
-            c.in_ok-left-in-Err.ensures.cases c.in_ok-right-in-Err.ensures.cases on here.left here.right
+            (side_same c.in_ok-left-in-Err.ensures.cases) (side_same c.in_ok-right-in-Err.ensures.cases) on here.left here.right
         | inr on ↦ follows_so spare checked change start v _ last.1 pair.fresh room pair.left pair.right (omega (arith, ints, has, own)) refl refl refl on here.left
             here.right
       ],

@@ -4,6 +4,6 @@ use Rattle.f77_symbolic.proofs.evaluator.Evaluator.is_at_most.Goals as goal
 
 pub returns : goal.returns
 returns c shown v holds =
-    let between = c.in_ok-between.ensures v in
+    let between = c.in_ok-combination.ensures v in
     let below = at_most_zero _ (c.in_ok-never_has.ensures shown v holds) in
     omega (arith, ints, between, below)

@@ -1,15 +1,30 @@
-use Rattle.f77_symbolic.proofs.Common.{arith, rules, refl, suc, sym, subst, inl, inr, ◌≡◌, ◌∙◌, ◌+ℤ◌, false, pos, SFits, of_z, to_z, w64, ints, Holds, IsEndOf}
+use Rattle.f77_symbolic.proofs.Common.{arith, rules, refl, suc, sym, subst, inl, inr, ◌≡◌, ◌∙◌, ◌+ℤ◌, false, pos, SFits, of_z, to_z, w64, ints, Holds, IsEndOf, cells_of}
 use Rattle.f77_symbolic.specs.declared.sides.Step.TheVariants as step
-use Rattle.f77_symbolic.proofs.Settling.{follows_so, own_follows}
-use Rattle.f77_symbolic.proofs.Comparisons.{some_so}
+use Rattle.f77_symbolic.proofs.HeldAlike.{hold_alike}
+use Rattle.f77_symbolic.proofs.Settling.{follows_so, own_follows, side_same}
+use Rattle.f77_symbolic.proofs.Comparisons.{same_step, some_so}
 use Rattle.f77_symbolic.proofs.evaluator.Evaluator.own_turn.Goals as goal
 
-pub returns-then-branch-clause-rests : goal.returns-then-branch-clause-rests
-returns-then-branch-clause-rests c spare checked start v ready is within none =
-    own_follows spare checked c.args.change.now start v c.args.pair.now c.step_from.new.self.path c.in_ok-step.left c.in_ok-step.step
+pub returns-in_ok-show_same-in-Returns-clause-rests : goal.returns-in_ok-show_same-in-Returns-clause-rests
+returns-in_ok-show_same-in-Returns-clause-rests c spare checked start v ready is within none =
+    let pair = c.args.pair.now in
+    let own = cells_of start.cells v pair.left.writes.items in
+    let other = cells_of start.cells v pair.right.writes.items in
+    let same : c.in_ok-other-in-Returns.other ≡ c.in_ok-step.step = same_step _ _ (sym c.eq.ensures ∙ c.in_ok-unless_unknown-in-Returns.ensures) in
+    let before = c.show_same.ensures.extends.back start v is in
+    own_follows spare checked c.args.change.now start v pair c.step_from.new.self.path c.in_ok-step.left c.in_ok-step.step
     c.deref.result.now ready c.deref.ensures.value
-    (λ here. c.in_ok-step.ensures.steps start v (c.is_end_alike.ensures.extends.back start v is) here.holds here.left)
-    (λ finish end. c.in_ok-is_end_alike-in-Returns.ensures.ends c.if-branch.true checked finish ready end start v is)
+    (λ here. c.in_ok-step.ensures.steps start v (c.other_step.ensures.extends.back start v before) here.holds here.left)
+    (λ finish end there.
+    let at = c.in_ok-other-in-Returns.ensures.ends (sym c.is_some.ensures ∙ c.if-is_some.false) start v finish before there (subst (λ m. IsEndOf m finish) (sym same) end) in
+    let alike = (rw (
+      c.deref-in-Returns-2.ensures.value,
+      c.deref-in-Returns.ensures,
+      c.deref-in-Returns-4.ensures.value,
+      c.deref-in-Returns-3.ensures,
+      c.deref-in-Returns-5.ensures.value,
+    ) at c.in_ok-show_same-in-Returns.ensures.same) start v is at.0 in
+    (other, at.1, hold_alike checked c.args.change.now.dummies.items own other ready.formed ready.dummies (alike there.left there.right)))
     (λ room has moves.
     elim c.in-Returns.is [
       | inl is ↦ let e : step.Moves ≡ step.Returns = sym moves ∙ is in absurd (cc (e))
@@ -29,7 +44,7 @@ returns-in_ok-ok_or-in-Moves-clause-rests c spare checked start v ready is withi
     (λ finish end. absurd (subst (λ m. IsEndOf m finish) c.in-Moves.is end))
     (λ room has moves holds inside right.
     follows_so spare checked c.args.change.now start v _ settled false (suc room) c.in_ok-step.left c.args.pair.now.right (omega (arith, ints, has, more)) refl refl
-    c.in_ok-clone-in-Moves.ensures.cases (subst (Holds v) (sym c.taken_path.ensures.path) holds) inside right)
+    (side_same c.in_ok-clone-in-Moves.ensures.cases) (subst (Holds v) (sym c.taken_path.ensures.path) holds) inside right)
 
 pub returns-in-Faults-clause-rests : goal.returns-in-Faults-clause-rests
 returns-in-Faults-clause-rests c spare checked start v ready is within none =

@@ -13,7 +13,6 @@ returns-clause-calculates c =
     c.in_ok-exponent.ensures.ok_part c.constant_of.ensures in
     ok_then c.ranged.result c.ranged.ensures.calculates
     (λ value claim start v interprets holds.
-    power_answers v c.args.self.now c.repeated.new.self c.ranged.new.self (sum_value v c.args.a.now) (sum_value v c.args.b.now) c.in_ok-exponent.exponent
-    (sum_value v c.in_ok-term.term) (λ x. sum_value v value ≡ x) (exponent v) above
+    power_answers v _ _ _ _ _ _ (sum_value v c.in_ok-term.term) _ (exponent v) above
     (λ n is. (simp to_z-of_z at c.in_ok-term.ensures.tells) above n is start v (c.ranged.ensures.extends.back start v interprets) holds)
     (claim start v interprets))

@@ -4,5 +4,4 @@ use Rattle.f77_symbolic.proofs.evaluator.Evaluator.ranged.Goals as goal
 
 pub returns-clause-calculates : goal.returns-clause-calculates
 returns-clause-calculates c start v interprets holds =
-    ranged_answers v c.args.self.now c.expect_below.new.self c.expect_below-2.new.self (sum_value v c.args.term)
-    (c.in_ok-expect_below.ensures.expects v holds) (c.in_ok-expect_below-2.ensures.expects v)
+    ranged_answers v c.args.self.now c.expect_within.new.self (sum_value v c.args.term) (c.in_ok-expect_within.ensures.expects v holds)

@@ -1,7 +1,7 @@
 use Rattle.f77_symbolic.proofs.Common.{arith, ◌≡◌, ◌<◌, ap, inl, length, subst, sym, ◌∙◌, take, take_all, All-nil, held_in, ok_then, cells_of, slot_of, ReadsCell}
 use Rattle.f77_symbolic.proofs.Answering.{stays_same}
 use Rattle.f77_symbolic.proofs.Located.{slot_within}
-use Rattle.f77_symbolic.proofs.Read.{held_past, held_there}
+use Rattle.f77_symbolic.proofs.Read.{content_copied, held_past, held_there}
 use Rattle.f77_symbolic.proofs.Written.{inside_at}
 use Rattle.f77_symbolic.proofs.evaluator.Evaluator.read.Goals as goal
 
@@ -26,13 +26,14 @@ returns-then-branch-clause-reads c start v there holds are is =
     let count = there.known.count in
     let below = slot_within c.args.location.now.first c.args.location.now.count _ is.above is.below in
     let within : slot_of v c.args.location.now < length start.cells =
-    omega (arith, count, below, c.len-slots.ensures, c.args.self.now.atoms.facts.ok, c.if-location-slots.false, c.if-location-slots-2.false) in
+    let room = c.in_ok-unless_unknown.ensures in
+    grind (arith, count, below, c.len-slots.ensures, c.args.self.now.atoms.facts.ok, c.saturating_add.ensures, room) in
     inl (
       stays_same v c.args.self.now holds,
       c.loop-k.invariant start.cells v holds are is
           ∙ held_there v start.cells c.args.writes.now (slot_of v c.args.location.now) c.loop-k.k write (omega (arith, c.loop-k-test.true)) last
           (same.0 c.if-branch.true) within
-          ∙ sym (c.in_ok-copied_value.ensures v),
+          ∙ sym (content_copied v _ _ c.in_ok-clone.ensures.cases),
     )
 
 pub returns-clause-reads : goal.returns-clause-reads

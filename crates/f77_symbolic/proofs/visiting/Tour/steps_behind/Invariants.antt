@@ -1,5 +1,0 @@
-use Rattle.f77_symbolic.proofs.Common.{take, All, IsBehindBy}
-use Rattle.f77_symbolic.proofs.visiting.Tour.steps_behind.Given as goal
-
-abbrev pub invariant-loop-visits : goal.invariant-loop-visits
-invariant-loop-visits l = All (IsBehindBy l.change l.most) (take l.visits-index l.self.each.items)
