@@ -1,11 +1,59 @@
-//! Answers of `mothra` to words and a job.
+//! Answers of `mothra` and `equivalents` to words and a job.
 
-use mothra_app::{Status, Watched, serve};
+ghost use Rattle.std.specs.Prelude.{◌≡◌, false};
+ghost use Rattle.mothra_app.specs.Answer.{IsTask};
+ghost use Rattle.mothra_app.specs.Commands.{mothra_promise};
+ghost use Rattle.mothra_cli.specs.Watched.{has_failed};
+
+use equivalents_app::Equivalents;
+use mothra_app::{AppFault, Mothra, Status, Watched, serve};
+use std::io::{Read, Write};
 use std::process::Abort;
 use std::str::from_utf8;
 use std::sync::Wait;
 use std::test::Fail;
 use std::thread::Threads;
+
+/// What `mothra` serves.
+pub(crate) fn serve_mothra<R: Read, W: Write>(
+    rt: &(impl AllocGlobal + Threads + Wait + Sync),
+    words: &[&str],
+    reader: &mut Watched<R>,
+    writer: &mut Watched<W>,
+) -> Result<Status, AppFault>
+    requires reader_works { has_failed reader.old ≡ false }
+    requires writer_works { has_failed writer.old ≡ false }
+{
+    serve(
+        &Mothra { alloc: rt.alloc() },
+        &|request, job|
+            requires { IsTask mothra_promise request.now job }
+        { mothra_app::report(rt, request, job) },
+        words,
+        reader,
+        writer,
+    )
+}
+
+/// What `equivalents` serves.
+pub(crate) fn serve_equivalents<R: Read, W: Write>(
+    rt: &impl AllocGlobal,
+    words: &[&str],
+    reader: &mut Watched<R>,
+    writer: &mut Watched<W>,
+) -> Result<Status, AppFault>
+    requires reader_works { has_failed reader.old ≡ false }
+    requires writer_works { has_failed writer.old ≡ false }
+{
+    let alloc = rt.alloc();
+    serve(
+        &Equivalents { alloc },
+        &|inquiry, job| equivalents_app::report(alloc, inquiry, job),
+        words,
+        reader,
+        writer,
+    )
+}
 
 /// The answer to words, separated by blanks, and the bytes of a job.
 pub(crate) fn answer(
@@ -17,7 +65,7 @@ pub(crate) fn answer(
     let mut out = Vec::new(rt.alloc());
     let mut reader = Watched::new(job);
     let mut writer = Watched::new(&mut out);
-    let status = serve(rt, &words, &mut reader, &mut writer)?;
+    let status = serve_mothra(rt, &words, &mut reader, &mut writer)?;
     Ok((status, out))
 }
 

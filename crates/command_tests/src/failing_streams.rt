@@ -1,8 +1,8 @@
 //! Readers and writers that fail at one call and then go on: the answer is the fault of that call, whichever it is.
 
+use crate::answers::{serve_equivalents, serve_mothra};
 use crate::streams::{Faltering, Stumbling};
-use equivalents_app::answer_inquiry;
-use mothra_app::{AppFault, Status, Watched, serve};
+use mothra_app::{AppFault, Status, Watched};
 use std::process::Abort;
 use std::sync::Wait;
 use std::thread::Threads;
@@ -46,9 +46,9 @@ fn end_of(
     let mut reader = Watched::new(reader);
     let mut writer = Watched::new(writer);
     let result = if call.words.len() == 2 {
-        serve(rt, call.words, &mut reader, &mut writer)
+        serve_mothra(rt, call.words, &mut reader, &mut writer)
     } else {
-        answer_inquiry(rt.alloc(), call.words, &mut reader, &mut writer)
+        serve_equivalents(rt, call.words, &mut reader, &mut writer)
     };
     Ended {
         result,

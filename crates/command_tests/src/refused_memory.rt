@@ -2,7 +2,8 @@
 //! memory, for `run` also that of a thread that can not begin, or the answer that comes when
 //! nothing is refused.
 
-use mothra_app::{AppFault, Status, Watched, serve};
+use crate::answers::serve_mothra;
+use mothra_app::{AppFault, Status, Watched};
 use std::process::Abort;
 use std::sync::Wait;
 use std::thread::Threads;
@@ -36,7 +37,7 @@ fn assert_undisturbed(
     let mut out = [0u8; ROOM];
     let mut reader = Watched::new(job.as_bytes());
     let mut writer = Watched::new(out.as_mut_slice());
-    match serve(rt, words, &mut reader, &mut writer) {
+    match serve_mothra(rt, words, &mut reader, &mut writer) {
         Ok(Status::Report) => assert_report(rt, &out, report),
         Ok(Status::Fault) => assert_fault(rt, &out, letters),
         served => {

@@ -1,9 +1,9 @@
 //! Words that rows can not have: words with blanks, and no words at all. For words that are refused, help and the
 //! version nothing is read.
 
+use crate::answers::{serve_equivalents, serve_mothra};
 use crate::streams::Stumbling;
-use equivalents_app::answer_inquiry;
-use mothra_app::{Status, Watched, serve};
+use mothra_app::{Status, Watched};
 use std::process::Abort;
 use std::sync::Wait;
 use std::test::Fail;
@@ -18,9 +18,9 @@ fn unread(
     let mut reader = Watched::new(Stumbling::new(b"", 0));
     let mut writer = Watched::new(&mut out);
     let status = if words.first() == Some(&"equivalents") {
-        answer_inquiry(rt.alloc(), words, &mut reader, &mut writer)?
+        serve_equivalents(rt, words, &mut reader, &mut writer)?
     } else {
-        serve(rt, words, &mut reader, &mut writer)?
+        serve_mothra(rt, words, &mut reader, &mut writer)?
     };
     assert!(rt; !reader.failed() && !writer.failed());
     Ok((status, out))

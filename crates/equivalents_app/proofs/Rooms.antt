@@ -1,22 +1,14 @@
 -- The room that tests leave, and the mutants that need at most this room.
-use Rattle.equivalents_app.proofs.Common.{arith, leb-true, ◌≡◌, ◌≤◌, ◌<◌, ◌+◌, ℕ, zero, suc, true, true≢false, List, get_or, length, take, Option, Some, None}
-use Rattle.equivalents_app.proofs.Common.{sym, subst, filter, IfSome, All-filter, All-more, All-weaker, filter_passes, IsEnd, LineFields, IsOutcomeOf, Arg}
-use Rattle.equivalents_app.proofs.Common.{Outcome, program_of, PlanFields, AreNamedMutants, HasRoom, LeavesRoom, LeavesRoomOn}
+use Rattle.equivalents_app.proofs.Common.{arith, leb-true, ◌≡◌, ◌≢◌, ◌≤◌, ◌<◌, ◌+◌, ℕ, nat_le, true, List, get_or, length, take}
+use Rattle.equivalents_app.proofs.Common.{sym, subst, filter, All-filter, All-more, All-weaker, filter_passes, LineFields, Arg}
+use Rattle.equivalents_app.proofs.Common.{AreUnprovedFor, None, Option, Some, Unproved, program_of, PlanFields, AreNamedMutants, HasRoom, LeavesRoom, LeavesRoomOn}
 use Rattle.std.proofs.lemmas.List.{take_all}
 use Rattle.std.proofs.lemmas.List.Kept.{AllPairs-filter}
 use Rattle.mothra_codes.specs.Ticket.{Before}
 use Rattle.mothra_equivalents.specs.Equivalents.{AreEquivalents, IsNamed}
 use Rattle.mothra_equivalents.specs.declared.equivalents.Equivalent.{Equivalent}
-use Rattle.equivalents_app.specs.code.{is_within}
 
 -- ---- one test
-
--- the steps that are left after the end of the program are the room
-pub left_behind : (program : List LineFields) (test : List Arg) (made steps : ℕ) (outcome : Outcome) (found : Option ℕ)
-    → IsOutcomeOf program test made outcome → IfSome found (λ room. (made + room ≡ steps) × IsEnd outcome)
-    → IfSome found (λ room. LeavesRoomOn program steps room test)
-left_behind program test made steps outcome None is left = tt
-left_behind program test made steps outcome (Some room) is left = let sum = left.0 in (made, outcome, omega (arith, sum), is, left.1)
 
 less_on : (program : List LineFields) (steps less more : ℕ) (test : List Arg) → less ≤ more → LeavesRoomOn program steps more test
     → LeavesRoomOn program steps less test
@@ -43,23 +35,32 @@ all_left program tests i steps room end leave = subst (λ all. LeavesRoom progra
 
 -- ---- mutants
 
-module _ (plan : PlanFields) (tests : List (List Arg)) (steps : ℕ) where
-  has_room : (room : Option ℕ) (spare : ℕ) → IfSome room (LeavesRoom (program_of plan) tests steps) → is_within room spare ≡ true
-      → HasRoom (program_of plan) tests steps spare
-  has_room room zero leave is = tt
-  has_room None (suc n) leave is = absurd (true≢false (sym is))
-  has_room (Some room) (suc n) leave is = less_room (program_of plan) tests steps (suc n) room (leb-true (suc n) room is) leave
+module _ (plan : PlanFields) (tests : List (List Arg)) (steps room : ℕ) (leave : HasRoom (program_of plan) tests steps room) where
+  has_room : (spare : ℕ) → nat_le spare room ≡ true → HasRoom (program_of plan) tests steps spare
+  has_room spare is = λ some.
+      let below = leb-true spare room is in
+      less_room (program_of plan) tests steps spare room below (leave (λ none. some (omega (arith, below, none))))
 
-  pub named : (room : Option ℕ) (all kept : List Equivalent) → AreEquivalents plan all → IfSome room (LeavesRoom (program_of plan) tests steps)
-      → kept ≡ filter (λ e. is_within room e.spare) all → AreNamedMutants plan tests steps kept
-  named room all kept are leave is =
-      let within : Equivalent → _ = λ e. is_within room e.spare in
+  pub named : (all kept : List Equivalent) → AreEquivalents plan all → kept ≡ filter (λ e. nat_le e.spare room) all → AreNamedMutants plan tests steps kept
+  named all kept are is =
+      let within : Equivalent → _ = λ e. nat_le e.spare room in
       subst (AreNamedMutants plan tests steps) (sym is)
       record {
         are = record {
           ordered = AllPairs-filter (λ (one other : Equivalent). Before one.ticket other.ticket) within all are.ordered;
           each = All-filter within (IsNamed plan) all are.each;
         };
-        room = All-weaker (λ (e : Equivalent). is_within room e.spare ≡ true) (λ (e : Equivalent). HasRoom (program_of plan) tests steps e.spare)
-            (λ e. has_room room e.spare leave) (filter within all) (filter_passes within all);
+        room = All-weaker (λ (e : Equivalent). nat_le e.spare room ≡ true) (λ (e : Equivalent). HasRoom (program_of plan) tests steps e.spare)
+            (λ e. has_room e.spare) (filter within all) (filter_passes within all);
       }
+
+-- what is told of others, where fewer are named
+pub told : (plan : PlanFields) (room : ℕ) (most : Option ℕ) (all kept : List Equivalent) (others : List Unproved)
+    → kept ≡ filter (λ e. nat_le e.spare room) all → AreUnprovedFor plan all most others → AreUnprovedFor plan kept most others
+told plan room None all kept others is before = before
+told plan room (Some most) all kept others is before = (
+  before.0,
+  before.1,
+  λ k d within.
+      rw is (All-filter (λ e. nat_le e.spare room) (λ (e : Equivalent). e.ticket ≢ (get_or others k d).ticket) all (before.2 k d within)),
+)

@@ -1,135 +1,96 @@
 -- INTEGER holds the numbers of the tests of a job.
-use Rattle.equivalents_app.proofs.Common.{arith, ◌≡◌, ◌^◌, ◌≤ℤ◌, ◌&&◌, ℕ, ℤ, pos, negsuc, Bool, true, false, refl, subst, List, [], ◌∷◌, Option, Some}
-use Rattle.equivalents_app.proofs.Common.{None, Ok, map, unwrap_or, All, IfSome, int_le, if◌then◌else◌, option_and_then, option_map, cons_option}
-use Rattle.equivalents_app.proofs.Common.{list_all, option_or, lt-ltb, All-cons, All-nil, values_in, Arg, JobFields, JobRead, job_faults, job_fields, job_of}
-use Rattle.equivalents_app.proofs.Common.{json_of, suite_in}
+use Rattle.equivalents_app.proofs.Common.{arith, ◌≡◌, ◌∙◌, ◌^◌, ◌≤ℤ◌, ◌&&◌, ℕ, ℤ, pos, negsuc, Bool, true, false, refl, subst, List, [], ◌∷◌, Option, Some}
+use Rattle.equivalents_app.proofs.Common.{None, Ok, unwrap_or, All, All-nil, IfSome, int_le, if◌then◌else◌, option_and_then, option_map, list_all, option_or}
+use Rattle.equivalents_app.proofs.Common.{lt-ltb, values_in, Arg, JobFields, JobRead, job_faults, job_fields, job_of, json_of, suite_in}
 use Rattle.std.specs.Int.Signed.{le_z_yes}
 use Rattle.std.proofs.lemmas.Float.{T_from_true}
 use Rattle.std.proofs.lemmas.Int.{ints}
+use Rattle.std.proofs.lemmas.List.Folds.{list_all-map}
 use Rattle.serde_json.specs.Data.{Data, Items, no_items, item}
 use Rattle.serde_json.specs.Find.{as_array, as_bool, as_i64, as_number}
 use Rattle.f77_actions.specs.Number.{fits}
 use Rattle.f77_actions.specs.declared.value.Value.TheVariants as held
 use Rattle.f77_equivalence.specs.Storable.{AreStorable, is_storable}
 use Rattle.f77_meaning.specs.declared.argument.Arg.TheVariants.{Int, Truth, Ints, Truths}
-use Rattle.mothra_job.specs.FirstFault.{fault_or}
 use Rattle.mothra_job.specs.Suite.{argument, array_of_items, each, integer, integer_in_range, test, tests_of}
-use Rattle.mothra_job.specs.declared.job.JobFault.{JobFault}
+use Rattle.mothra_job.proofs.FewTests.{without_fault}
+use Rattle.mothra_replacements.proofs.FormedPools.{All-filter_map}
 
-abbrev IsHeld : ℤ → Type 0
-IsHeld z = fits z ≡ true
+-- ---- what is read of values
 
-abbrev AreHeld : List ℤ → Type 0
-AreHeld zs = list_all is_storable (map (λ z. held.Number z) zs) ≡ true
+-- what passes the test, if there is anything
+abbrev Passes : {A : Type 0} → (A → Bool) → Option A → Type 0
+Passes p o = IfSome o (λ a. p a ≡ true)
 
-abbrev IsHeldIn : Arg → Type 0
-IsHeldIn a = list_all is_storable (values_in a) ≡ true
+then_read : {A B : Type 0} (p : B → Bool) (f : A → Option B) → ((a : A) → Passes p (f a)) → (o : Option A) → Passes p (option_and_then f o)
+then_read p f passes None = tt
+then_read p f passes (Some a) = passes a
+
+each_passes : {A : Type 0} (p : A → Bool) (read : Data → Option A) → ((value : Data) → Passes p (read value)) → (items : Items) → Passes (list_all p) (each read items)
+each_passes p read passes no_items = refl
+each_passes {A} p read passes (item value rest) = go (read value) (each read rest) (passes value) (each_passes p read passes rest)
+  where
+    go : (o : Option A) (more : Option (List A)) → Passes p o → Passes (list_all p) more
+        → Passes (list_all p) (option_and_then (λ a. option_map (λ others. a ∷ others) more) o)
+    go None more first others = tt
+    go (Some a) None first others = tt
+    go (Some a) (Some all) first others = rw (first, others) refl
+
+abbrev are_held : Arg → Bool
+are_held a = list_all is_storable (values_in a)
 
 -- ---- numbers
 
-fits_between : (z : ℤ) → negsuc 2147483647 ≤ℤ z → z ≤ℤ pos 2147483647 → IsHeld z
-fits_between (pos n) l h = lt-ltb n (2 ^ 31) (omega (arith, ints))
-fits_between (negsuc n) l h = lt-ltb n (2 ^ 31) (omega (arith, ints))
+fits_between : (z : ℤ) → negsuc 2147483647 ≤ℤ z → z ≤ℤ pos 2147483647 → fits z ≡ true
+fits_between (pos n) low high = lt-ltb n (2 ^ 31) (omega (arith, ints))
+fits_between (negsuc n) low high = lt-ltb n (2 ^ 31) (omega (arith, ints))
 
-tested : (z : ℤ) (a b : Bool) → int_le (negsuc 2147483647) z ≡ a → int_le z (pos 2147483647) ≡ b → IfSome (if a && b then Some z else None) IsHeld
-tested z true true l h = fits_between z (le_z_yes (T_from_true _ l)) (le_z_yes (T_from_true _ h))
-tested z true false l h = tt
-tested z false b l h = tt
+tested : (z : ℤ) (a b : Bool) → int_le (negsuc 2147483647) z ≡ a → int_le z (pos 2147483647) ≡ b → Passes fits (if a && b then Some z else None)
+tested z true true low high = fits_between z (le_z_yes (T_from_true _ low)) (le_z_yes (T_from_true _ high))
+tested z true false low high = tt
+tested z false b low high = tt
 
-of_number : (o : Option ℤ) → IfSome (option_and_then integer_in_range o) IsHeld
-of_number None = tt
-of_number (Some z) = tested z _ _ refl refl
+integer_held : (value : Data) → Passes fits (integer value)
+integer_held value = then_read fits integer_in_range (λ z. tested z _ _ refl refl) (option_and_then as_i64 (as_number value))
 
-integer_held : (value : Data) → IfSome (integer value) IsHeld
-integer_held value = of_number (option_and_then as_i64 (as_number value))
-
-one_more : (o : Option ℤ) (rest : Option (List ℤ)) → IfSome o IsHeld → IfSome rest AreHeld
-    → IfSome (option_and_then (λ z. option_map (λ zs. z ∷ zs) rest) o) AreHeld
-one_more None rest first others = tt
-one_more (Some z) None first others = tt
-one_more (Some z) (Some zs) first others = rw (first, others) refl
-
-integers_held : (items : Items) → IfSome (each integer items) AreHeld
-integers_held no_items = refl
-integers_held (item value rest) = one_more (integer value) (each integer rest) (integer_held value) (integers_held rest)
-
--- ---- the value of a dummy argument
-
-truths_held : (bs : List Bool) → IsHeldIn (Truths bs)
+truths_held : (bs : List Bool) → are_held (Truths bs) ≡ true
 truths_held [] = refl
 truths_held (b ∷ bs) = truths_held bs
 
-of_integer : (o : Option ℤ) → IfSome o IsHeld → IfSome (option_map (λ z. Int z) o) IsHeldIn
-of_integer None is = tt
-of_integer (Some z) is = rw is refl
+-- ---- the value of a dummy argument
 
-of_truth : (o : Option Bool) → IfSome (option_map (λ b. Truth b) o) IsHeldIn
-of_truth None = tt
-of_truth (Some b) = refl
-
-of_integers : (o : Option (List ℤ)) → IfSome o AreHeld → IfSome (option_map (λ zs. Ints zs) o) IsHeldIn
-of_integers None are = tt
-of_integers (Some zs) are = are
-
-of_truths : (o : Option (List Bool)) → IfSome (option_map (λ bs. Truths bs) o) IsHeldIn
-of_truths None = tt
-of_truths (Some bs) = truths_held bs
-
-either : (a b : Option Arg) → IfSome a IsHeldIn → IfSome b IsHeldIn → IfSome (option_or a b) IsHeldIn
-either None b first second = second
-either (Some a) b first second = first
-
-array_held : (items : Items) → IfSome (array_of_items items) IsHeldIn
+array_held : (items : Items) → Passes are_held (array_of_items items)
 array_held no_items = tt
-array_held (item value rest) =
-    let items : Items = item value rest in
-    either (option_map (λ zs. Ints zs) (each integer items)) (option_map (λ bs. Truths bs) (each as_bool items))
-    (of_integers (each integer items) (integers_held items)) (of_truths (each as_bool items))
+array_held (item value rest) = go (each integer (item value rest)) (each as_bool (item value rest)) (each_passes fits integer integer_held (item value rest))
+  where
+    go : (zs : Option (List ℤ)) (bs : Option (List Bool)) → Passes (list_all fits) zs
+        → Passes are_held (option_or (option_map (λ zs. Ints zs) zs) (option_map (λ bs. Truths bs) bs))
+    go (Some zs) bs within = list_all-map is_storable (λ z. held.Number z) zs ∙ within
+    go None (Some bs) held = truths_held bs
+    go None None held = tt
 
-of_array : (o : Option Items) → IfSome (option_and_then array_of_items o) IsHeldIn
-of_array None = tt
-of_array (Some items) = array_held items
+argument_held : (value : Data) → Passes are_held (argument value)
+argument_held value = go (integer value) (as_bool value) (integer_held value)
+  where
+    array : Option Arg
+    array = option_and_then array_of_items (as_array value)
 
-argument_held : (value : Data) → IfSome (argument value) IsHeldIn
-argument_held value =
-    let array = option_and_then array_of_items (as_array value) in
-    let truth = option_map (λ b. Truth b) (as_bool value) in
-    either (option_map (λ z. Int z) (integer value)) (option_or truth array) (of_integer (integer value) (integer_held value))
-    (either truth array (of_truth (as_bool value)) (of_array (as_array value)))
+    go : (z : Option ℤ) (b : Option Bool) → Passes fits z → Passes are_held (option_or (option_map (λ z. Int z) z) (option_or (option_map (λ b. Truth b) b) array))
+    go (Some z) b held = rw held refl
+    go None (Some b) held = refl
+    go None None held = then_read are_held array_of_items array_held (as_array value)
 
 -- ---- the tests
 
-argument_more : (o : Option Arg) (rest : Option (List Arg)) → IfSome o IsHeldIn → IfSome rest AreStorable
-    → IfSome (option_and_then (λ a. option_map (λ others. a ∷ others) rest) o) AreStorable
-argument_more None rest first others = tt
-argument_more (Some a) None first others = tt
-argument_more (Some a) (Some rest) first others = rw (first, others) refl
-
-arguments_held : (items : Items) → IfSome (each argument items) AreStorable
-arguments_held no_items = refl
-arguments_held (item value rest) = argument_more (argument value) (each argument rest) (argument_held value) (arguments_held rest)
-
-of_list : (o : Option Items) → IfSome (option_and_then (each argument) o) AreStorable
-of_list None = tt
-of_list (Some items) = arguments_held items
-
-test_more : (o : Option (List Arg)) (tests : List (List Arg)) → IfSome o AreStorable → All AreStorable tests → All AreStorable (cons_option o tests)
-test_more None tests first others = others
-test_more (Some test) tests first others = All-cons AreStorable test tests first others
-
 tests_held : (values : List Data) → All AreStorable (tests_of values)
-tests_held [] = All-nil AreStorable
-tests_held (value ∷ values) = test_more (test value) (tests_of values) (of_list (as_array value)) (tests_held values)
+tests_held values = All-filter_map AreStorable (λ _. Unit {0}) test
+    (λ value _. then_read (list_all are_held) (each argument) (each_passes are_held argument argument_held) (as_array value)) values (λ k d low. tt)
 
 fields_held : (value : Option Data) → All AreStorable (job_fields value).suite
 fields_held None = All-nil AreStorable
 fields_held (Some value) = tests_held (unwrap_or (suite_in value) [])
 
-job_is : (faults : List JobFault) (own job : JobFields) → (let one : JobRead = Ok job in one ≡ fault_or faults own) → own ≡ job
-job_is [] own job is = cc
-job_is (fault ∷ faults) own job is = cc
-
 pub storable_suite : (bytes : List ℕ) (job : JobFields) → (let one : JobRead = Ok job in one ≡ job_of bytes) → All AreStorable job.suite
 unfolding job_of job_faults
 storable_suite bytes job is =
-    subst (λ (j : JobFields). All AreStorable j.suite) (job_is (job_faults bytes) (job_fields (json_of bytes)) job is) (fields_held (json_of bytes))
+    subst (λ (j : JobFields). All AreStorable j.suite) (without_fault (job_faults bytes) (job_fields (json_of bytes)) job is).1 (fields_held (json_of bytes))

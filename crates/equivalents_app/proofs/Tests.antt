@@ -1,5 +1,5 @@
 -- No test of a bench kills an equivalent mutant.
-use Rattle.equivalents_app.proofs.Common.{arith, ◌≡◌, ◌∙◌, ◌+◌, ◌==◌, ℕ, zero, suc, get_or, Bool, true, false, cond, not, refl, sym, subst, List, [], ◌∷◌}
+use Rattle.equivalents_app.proofs.Common.{arith, ◌≡◌, ◌∙◌, ◌+◌, ◌==◌, ℕ, zero, suc, get_or, Bool, true, false, cond, refl, sym, subst, List, [], ◌∷◌}
 use Rattle.equivalents_app.proofs.Common.{length, Option, Some, None, All, option_map, eqb-true, All-cons, All-head, All-nil, All-tail, shapes}
 use Rattle.equivalents_app.proofs.Common.{All-weaker, IsEnd, IsEquivalentWithin, KeepsEndsWithin, LineFields, AreFitting, IsOutcomeOf, OneAnswer, first_misfit, refusal}
 use Rattle.equivalents_app.proofs.Common.{Arg, Outcome, MutantFields, program_of, NoTestKills, HasRoom, LeavesRoom, LeavesRoomOn}
@@ -67,7 +67,7 @@ ends_leave p steps tests outcomes are end =
 leaves : (bench : BenchFields) → IsBench bench → (spare : ℕ) → HasRoom (program_of bench.plan) bench.tests bench.steps spare
     → LeavesRoom (program_of bench.plan) bench.tests bench.steps spare
 leaves bench is zero room = ends_leave (program_of bench.plan) bench.steps bench.tests bench.outcomes is.outcomes is.end
-leaves bench is (suc n) room = room
+leaves bench is (suc n) room = room (λ none. cc)
 
 same_mutant : (m n : MutantFields) (o : Option MutantFields) → o ≡ Some m → o ≡ Some n → m ≡ n
 same_mutant m n o is also = let both : Some m ≡ Some n = sym is ∙ also in cc
@@ -80,5 +80,5 @@ none_kills one bytes job bench list read is tests named k d within kills verdict
     let storable : All AreStorable bench.tests = subst (All AreStorable) (sym tests) (storable_suite bytes job (sym read)) in
     let room : HasRoom p bench.tests bench.steps spare = subst (λ suite. HasRoom p suite bench.steps spare) (sym tests) (named.room k d within) in
     let same = same_mutant proved.mutant verdict.mutant _ proved.is verdict.is in
-    let kept : IsEquivalentWithin spare p (mutated p verdict.mutant) = subst (λ m. IsEquivalentWithin spare p (mutated p m)) same proved.proved.within in
+    let kept : IsEquivalentWithin spare p (mutated p verdict.mutant) = subst (λ m. IsEquivalentWithin spare p (mutated p m)) same proved.within in
     none_killed one p (mutated p verdict.mutant) bench.steps spare kept bench.tests kills is.fit storable (leaves bench is spare room) verdict.alone

@@ -1,20 +1,13 @@
 pub mod Prelude
 pub mod Words
-pub mod Unproved
-pub mod Rows
-pub mod Left
+pub mod Others
 pub mod Rendering
 pub mod Room
 pub mod Finding
-pub mod Serving
 pub mod Law
-pub mod code
 unfoldable pub use Words.*
-pub use Unproved.*
-pub use Rows.*
-pub use Left.*
+pub use Others.*
 pub use Rendering.*
 pub use Room.*
 pub use Finding.*
-pub use Serving.*
 pub use Law.*

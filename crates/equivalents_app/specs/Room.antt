@@ -1,5 +1,5 @@
 -- Whether the tests leave room for mutants that may take more steps than the program.
-use Rattle.std.specs.Prelude.{◌≤◌, ◌+◌, ⊤, ℕ, zero, suc, All, List}
+use Rattle.std.specs.Prelude.{◌≢◌, ◌≤◌, ◌+◌, ℕ, All, List}
 use Rattle.equivalents_app.specs.Prelude.{LineFields, IsEnd, IsOutcomeOf, Arg, Equivalent, program_of, PlanFields}
 use Rattle.f77_meaning.specs.declared.outcome.Outcome.{Outcome}
 use Rattle.mothra_equivalents.specs.Equivalents.{AreEquivalents}
@@ -15,10 +15,9 @@ LeavesRoomOn program steps room test =
 abbrev pub LeavesRoom : List LineFields → List (List Arg) → ℕ → ℕ → Type 0
 LeavesRoom program tests steps room = All (LeavesRoomOn program steps room) tests
 
--- the tests leave room for a mutant with so many steps to spare
+-- the tests leave this room, if it is any
 abbrev pub HasRoom : List LineFields → List (List Arg) → ℕ → ℕ → Type 0
-HasRoom program tests steps zero = ⊤
-HasRoom program tests steps (suc n) = LeavesRoom program tests steps (suc n)
+HasRoom program tests steps room = room ≢ 0 → LeavesRoom program tests steps room
 
 -- Rule: what `equivalents` writes
 -- the mutants are equivalent, and the tests leave the room that each of them needs

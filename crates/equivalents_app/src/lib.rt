@@ -3,17 +3,12 @@
 #![tactic(auto)]
 
 mod finding;
-mod killed;
 pub mod law;
-mod left;
+mod others;
 mod rendering;
-mod room;
-mod rows;
-mod serving;
-mod unproved;
+mod suite;
 mod words;
 
-pub use mothra_app::{AppFault, Status, Watched};
-pub use rendering::text_of;
-pub use serving::answer_inquiry;
+pub use finding::{Equivalents, report};
+pub use mothra_app::{AppFault, Status, Watched, run, serve};
 pub use words::{Inquiry, inquiry_of};

@@ -1,18 +1,15 @@
 //! The command line of `equivalents`, and what its words ask for.
 
-ghost use Rattle.std.specs.Prelude.{◌≡◌, IfErr, IfOk, Ok, OnOk, Some, false, map};
+ghost use Rattle.std.specs.Prelude.{◌≡◌, IfErr, IfOk, false, map};
 ghost use Rattle.clap.specs.Words.{FailsBy, app_of, fault_of, found_of, matches_of, rows_of, rule_of};
 ghost use Rattle.clap.specs.declared.builder.command.Command.TheViews.{out-Command};
-ghost use Rattle.mothra_cli.specs.Command.{steps_rule};
-ghost use Rattle.equivalents_app.specs.{equivalents, flag_at, json_rule, rows_rule, IsInquiryBounded, IsInquiryTaken};
-ghost use Rattle.equivalents_app.specs.{inquiry_meaning, options_meaning, IsInquiryFault};
-ghost use Rattle.equivalents_app.specs.code.{ReadsInquiry};
-ghost use Rattle.equivalents_app.specs.Words as asked;
+ghost use Rattle.mothra_cli.specs.Asking.{AsksFor, IsFaultOf};
+ghost use Rattle.equivalents_app.specs.{equivalents, equivalents_line, flag_at, json_rule, rows_rule};
 
 use clap::builder::ValueParser;
 use clap::{Arg, ArgAction, ArgMatches, Command, Error};
 use mothra_cli::{
-    Operators, VERSION, WordsFault, every_option, number_at, operators_at, ops_option,
+    Operators, VERSION, WordsFault, every_option, number_at, operators_at, ops_option, steps_option,
 };
 use std::alloc::{AllocError, Global};
 use std::convert::AsStr;
@@ -30,20 +27,6 @@ pub struct Inquiry {
     pub json: bool,
     /// So many rows are to be written for a mutant that is not named, 1 to 64; none where it is None.
     pub rows: Option<u32>,
-}
-
-/// The option `--steps`: 1 to 1,000,000; 10,000 where it is absent.
-fn steps_option<'a>(alloc: Global) -> Arg<'a>
-    ensures rule { rule_of result ≡ steps_rule }
-    ensures global { result.global ≡ false }
-{
-    Arg::new(alloc, "steps")
-        .long("steps")
-        .help(
-            "The limit on steps of a run: a mutant is named by SPARE n where each test leaves n of them",
-        )
-        .value_parser(ValueParser::unsigned(1, 1_000_000))
-        .default_value("10000")
 }
 
 fn json_option<'a>(alloc: Global) -> Arg<'a>
@@ -70,6 +53,10 @@ fn rows_option<'a>(alloc: Global) -> Arg<'a>
         .value_parser(ValueParser::unsigned(1, 64))
 }
 
+/// The help of the option `--steps`.
+const STEPS: &str =
+    "The limit on steps of a run: a mutant is named by SPARE n where each test leaves n of them";
+
 fn command<'a>(alloc: Global) -> Result<Command<'a>, AllocError>
     ensures app { IfOk result (λ c. app_of c ≡ equivalents) }
     ensures globals { IfOk result (λ c. (out-Command c).has_globals ≡ false) }
@@ -87,7 +74,7 @@ fn command<'a>(alloc: Global) -> Result<Command<'a>, AllocError>
         .version(VERSION)
         .arg(ops_option(alloc))?
         .arg(every_option(alloc))?
-        .arg(steps_option(alloc))?
+        .arg(steps_option(alloc, STEPS))?
         .arg(json_option(alloc))?
         .arg(rows_option(alloc))?;
     Ok(command)
@@ -105,52 +92,23 @@ fn matches_in<'a, S: AsStr>(alloc: Global, words: &'a [S]) -> Result<ArgMatches<
 fn has_flag(matches: &ArgMatches<'_>, name: &str) -> bool
     ensures { result ≡ flag_at name.now (rows_of (found_of matches.now)) }
 {
-    matches.get_one(name).unwrap_or(false)
-}
-
-/// The inquiry with these operators and numbers, and with lines or JSON.
-fn inquiry_with(
-    operators: Operators,
-    every: Option<u32>,
-    steps: Option<u32>,
-    json: bool,
-    rows: Option<u32>,
-) -> Option<Inquiry>
-    ensures { ReadsInquiry (inquiry_meaning (Some operators) every steps json rows) (Ok result) }
-{
-    Some(Inquiry {
-        operators,
-        every: every?,
-        steps: steps?,
-        json,
-        rows,
-    })
-}
-
-/// The inquiry of these values of the options.
-fn inquiry_in(alloc: Global, matches: &ArgMatches<'_>) -> Result<Option<Inquiry>, WordsFault>
-    ensures { ReadsInquiry (options_meaning (rows_of (found_of matches.now))) result }
-{
-    match operators_at(alloc, matches)? {
-        Some(operators) => Ok(inquiry_with(
-            operators,
-            number_at(matches, "every"),
-            number_at(matches, "steps"),
-            has_flag(matches, "json"),
-            number_at(matches, "rows"),
-        )),
-        None => Err(WordsFault::BadOperatorList),
-    }
+    matches!(matches.get_str(name), Some("true"))
 }
 
 /// The inquiry that the words are, or why they are none. The first word is the program's name.
 pub fn inquiry_of<S: AsStr>(alloc: Global, words: &[S]) -> Result<Inquiry, WordsFault>
-    ensures inquiry { IfOk result (λ i. asked.inquiry_of (map S.text words.now) ≡ Some i) }
-    ensures bounds { IfOk result IsInquiryBounded }
-    ensures taken { OnOk result (IsInquiryTaken (map S.text words.now)) }
-    ensures fault { IfErr result (IsInquiryFault (map S.text words.now)) }
+    ensures asked { IfOk result (AsksFor equivalents_line (map S.text words.now)) }
+    ensures fault { IfErr result (IsFaultOf equivalents_line (map S.text words.now)) }
 {
     let matches = matches_in(alloc, words)?;
-    let inquiry = inquiry_in(alloc, &matches)?;
-    Ok(inquiry.unwrap())
+    let Some(operators) = operators_at(alloc, &matches)? else {
+        return Err(WordsFault::BadOperatorList);
+    };
+    Ok(Inquiry {
+        operators,
+        every: number_at(&matches, "every").unwrap(),
+        steps: number_at(&matches, "steps").unwrap(),
+        json: has_flag(&matches, "json"),
+        rows: number_at(&matches, "rows"),
+    })
 }

@@ -1,3 +1,2 @@
 pub mod Common
-pub mod Proved
 pub mod Listed

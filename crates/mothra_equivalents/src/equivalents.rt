@@ -1,10 +1,11 @@
-//! The mutants of a plan that are proved equivalent, found one by one.
+//! The mutants of a plan that are proved equivalent, found one by one, and what is told of the others.
 
 ghost use Rattle.std.specs.Prelude.{IfOk};
-ghost use Rattle.mothra_equivalents.specs.{AreEquivalents};
+ghost use Rattle.mothra_equivalents.specs.{AreEquivalents, AreUnprovedFor};
 
 use crate::prover::Prover;
-use crate::unproved::{Search, Unproved};
+use crate::unproved::{Unproved, left_at, rows_of};
+use f77_legal::Names;
 use indexmap::IndexSet;
 use mothra_codes::Ticket;
 use mothra_ops::Plan;
@@ -17,7 +18,7 @@ pub struct Equivalent {
     /// The mutant; the number is that in the plan's list of the operator, which may be thinned.
     pub ticket: Ticket,
     /// So many steps it may need more than the program; none if it is 0.
-    pub spare: u32,
+    pub spare: u64,
 }
 
 /// What was found of the mutants of a plan.
@@ -31,30 +32,47 @@ pub struct Found {
     pub others: Vec<Unproved>,
 }
 
-/// The mutants of the plan that are proved equivalent, by operator, then number. A mutant that is not among them may
-/// be equivalent, too. Those that a test kills can not be: nothing is asked of them. For the others tests are looked
-/// for as asked.
+/// The mutants of the plan that are proved equivalent. A mutant that is not among them may be equivalent, too. Those
+/// that a test kills can not be: nothing is asked of them. For the others tests are looked for, if they are asked for:
+/// at most so many for a mutant, on which the program ends within so many steps.
 pub fn equivalents_of(
     alloc: Global,
     plan: &Plan,
     killed: &IndexSet<Ticket>,
-    search: Search,
+    most: Option<u32>,
+    steps: u32,
 ) -> Result<Found, AllocError>
     ensures equivalents { IfOk result (λ found. AreEquivalents plan.now found.list.items) }
+    ensures others { IfOk result (λ found. AreUnprovedFor plan.now found.list.items most found.others.items) }
 {
+    let checked = plan.program();
+    let names = Names::of(alloc, checked.program().lines())?;
     let tickets = plan.tickets(alloc)?;
     let asked = (tickets.len() as u64).saturating_sub(killed.len() as u64);
-    let mut prover = Prover::of(alloc, plan, killed, search, asked)?;
+    let mut prover = Prover::of(alloc, checked, asked, most.is_some())?;
     let mut list = Vec::new(alloc);
+    let mut others = Vec::new(alloc);
     for ticket in &tickets {
         let ticket = *ticket;
-        if let Some(spare) = prover.spare(ticket)? {
+        if killed.contains(&ticket) {
+            continue;
+        }
+        let Some(mutant) = plan.mutant(ticket.op, ticket.number) else {
+            continue;
+        };
+        if let Some(spare) = prover.spare(checked, mutant)? {
             list.push(Equivalent { ticket, spare })?;
+        } else if let Some(most) = &most {
+            let rows = rows_of(alloc, checked, mutant, &prover.rows.list, *most, steps)?;
+            let left = left_at(checked, &names, prover.rows.gap);
+            if !rows.is_empty() || left.is_some() {
+                others.push(Unproved { ticket, rows, left })?;
+            }
         }
     }
     Ok(Found {
         list,
         unfinished: prover.unfinished,
-        others: prover.others,
+        others,
     })
 }

@@ -6,4 +6,4 @@ mod prover;
 mod unproved;
 
 pub use equivalents::{Equivalent, Found, equivalents_of};
-pub use unproved::{Left, Search, Unproved};
+pub use unproved::{Left, Unproved};

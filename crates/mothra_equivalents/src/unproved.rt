@@ -1,29 +1,22 @@
 //! What is told of a mutant that is not proved equivalent: where its proof was given up, and tests that kill it. What
 //! the proof leaves is run.
 
+ghost use Rattle.std.specs.Prelude.{◌≡◌, ◌≢◌, ◌≤◌, true, All, AllPairs, IfOk, length};
+ghost use Rattle.f77_meaning.specs.Interpreter.{AreFitting};
 ghost use Rattle.mothra_ops.specs.Made.{IsMadeMutant};
 
 use f77_check::{Checked, Shape};
 use f77_legal::Names;
 use f77_legal::names::product;
 use f77_meaning::{Arg, Outcome, Values};
-use f77_run::{Runner, run};
+use f77_run::{Runner, fit, run};
 use f77_symbolic::rows::Gap;
 use f77_tree::{Kind, Name};
 use mothra_codes::Ticket;
 use mothra_ops::Mutant;
 use std::alloc::{AllocError, Global};
 
-/// How tests are looked for.
-#[derive(Clone, Copy, PartialEq, Eq, Debug, Drop)]
-pub struct Search {
-    /// So many for a mutant at most; nothing is told of it where it is 0.
-    pub most: u32,
-    /// The limit on steps of a run.
-    pub steps: u32,
-}
-
-/// What is told of a mutant that is not proved equivalent. Nothing is claimed of it.
+/// What is told of a mutant that is not proved equivalent. That its tests kill it is not claimed.
 #[derive(Drop)]
 pub struct Unproved {
     /// The mutant; the number is that in the plan's list of the operator, which may be thinned.
@@ -45,62 +38,53 @@ pub struct Left {
     pub name: Option<Name>,
 }
 
-/// The value of a dummy argument of this shape, whose slots hold these numbers.
-fn argument(alloc: Global, shape: Shape, held: Vec<i32>) -> Result<Arg, AllocError> {
-    let first = held.first().copied().unwrap_or(0);
-    Ok(match (shape.kind, shape.elements) {
-        (Kind::Integer, None) => Arg::Int(first),
-        (Kind::Logical, None) => Arg::Truth(first != 0),
-        (Kind::Integer, Some(_)) => Arg::Ints(Values::new(held)),
-        (Kind::Logical, Some(_)) => Arg::Truths(Values::new(
-            held.iter().map(|number| *number != 0).collect(alloc)?,
-        )),
-    })
-}
-
-/// The values of dummy arguments of these shapes, whose slots hold the numbers of the row in order; 0 behind its end,
-/// and for one that 32 bits do not hold.
+/// The values of dummy arguments of these shapes, whose slots hold the numbers of the row in order; 0 for one that 32
+/// bits do not hold.
 fn arguments(alloc: Global, shapes: &[Shape], row: &[i64]) -> Result<Values<Arg>, AllocError> {
     let mut list = Vec::with_capacity(alloc, shapes.len())?;
-    let mut numbers = row.iter();
+    let mut rest = row;
     for shape in shapes {
-        let mut held = Vec::new(alloc);
-        for _ in 0..shape.elements.unwrap_or(1) {
-            let number = numbers.next().copied().unwrap_or(0);
-            held.push(i32::try_from(number).unwrap_or(0))?;
-        }
-        list.push(argument(alloc, *shape, held)?)?;
+        let count = rest.len().min(shape.elements.unwrap_or(1) as usize);
+        let (front, others) = rest.split_at(count);
+        rest = others;
+        let held: Vec<i32> = front
+            .iter()
+            .map(|number| i32::try_from(*number).unwrap_or(0))
+            .collect(alloc)?;
+        let first = held.first().copied().unwrap_or(0);
+        list.push(match (shape.kind, shape.elements) {
+            (Kind::Integer, None) => Arg::Int(first),
+            (Kind::Logical, None) => Arg::Truth(first != 0),
+            (Kind::Integer, Some(_)) => Arg::Ints(Values::new(held)),
+            (Kind::Logical, Some(_)) => Arg::Truths(Values::new(
+                held.iter().map(|number| *number != 0).collect(alloc)?,
+            )),
+        })?;
     }
     Ok(Values::new(list))
 }
 
-/// Whether the program returns or stops on a test that fits, and the mutant, whose runner this is, does something else.
-/// A test that fits is refused for want of memory alone.
-fn is_killed(
-    alloc: Global,
-    checked: &Checked,
-    mutant: &mut Runner<'_>,
-    test: &[Arg],
-    steps: u32,
-) -> Result<bool, AllocError> {
-    let outcome = run(alloc, checked, test, steps).map_err(|_| AllocError)?;
-    let ends = matches!(outcome, Outcome::Returned(_) | Outcome::Stopped(_));
-    Ok(
-        ends && !mutant
-            .comes_to(test, steps, &outcome)
-            .map_err(|_| AllocError)?,
-    )
+/// The test is none of these.
+fn is_new(tests: &[Values<Arg>], test: &Values<Arg>) -> bool
+    ensures { result ≡ true → All (λ other. other ≢ test.now) tests.now }
+{
+    !tests.contains(test)
 }
 
-/// Tests that kill the mutant, those of these rows that do, as many as are asked for.
+/// Tests that kill the mutant, those of these rows that do, each once and at most so many: on them the program returns
+/// or stops within the steps, and the mutant does something else.
 pub(crate) fn rows_of(
     alloc: Global,
     checked: &Checked,
     mutant: &Mutant,
     rows: &[Vec<i64>],
-    search: Search,
+    most: u32,
+    steps: u32,
 ) -> Result<Vec<Values<Arg>>, AllocError>
     requires { IsMadeMutant checked.now mutant.now }
+    ensures fit { IfOk result (λ tests. All (AreFitting checked.now.arguments) tests.items) }
+    ensures differ { IfOk result (λ tests. AllPairs (λ test other. test ≢ other) tests.items) }
+    ensures few { IfOk result (λ tests. length tests.items ≤ most) }
 {
     let mut killing = Vec::new(alloc);
     if rows.is_empty() {
@@ -110,20 +94,24 @@ pub(crate) fn rows_of(
     let changed = checked.with_statement(mutant.number(), &stmt, mutant.is_alone)?;
     let mut runner = Runner::of(alloc, &changed)?;
     for row in rows {
-        if killing.len() >= search.most as usize {
+        if killing.len() >= most as usize {
             return Ok(killing);
         }
         let test = arguments(alloc, checked.arguments(), row)?;
-        if is_killed(alloc, checked, &mut runner, test.as_slice(), search.steps)? {
+        if !is_new(&killing, &test) || fit(checked.arguments(), test.as_slice()).is_err() {
+            continue;
+        }
+        // A test that fits is refused for want of memory alone.
+        let outcome = run(alloc, checked, test.as_slice(), steps).map_err(|_| AllocError)?;
+        if !matches!(outcome, Outcome::Returned(_) | Outcome::Stopped(_)) {
+            continue;
+        }
+        let is_same = runner.comes_to(test.as_slice(), steps, &outcome);
+        if !is_same.map_err(|_| AllocError)? {
             killing.push(test)?;
         }
     }
     Ok(killing)
-}
-
-/// The line of the statement of this number, from 0.
-fn line_at(checked: &Checked, statement: usize) -> Option<u32> {
-    Some(checked.program().line(statement.checked_add(1)?)?.line)
 }
 
 /// The name of the variable or array of which a slot is. Slots are given out name by name.
@@ -141,9 +129,10 @@ fn name_at(names: &Names, slot: usize) -> Option<Name> {
 /// Where the walk was given up, if it came to statements of the program.
 pub(crate) fn left_at(checked: &Checked, names: &Names, gap: Option<Gap>) -> Option<Left> {
     let gap = gap?;
+    let lines = checked.program().lines();
     Some(Left {
-        own: line_at(checked, gap.own)?,
-        other: line_at(checked, gap.other)?,
+        own: lines.get(gap.own)?.line,
+        other: lines.get(gap.other)?.line,
         name: gap.slot.and_then(|slot| name_at(names, slot)),
     })
 }

@@ -1,9 +1,13 @@
 //! The answer to a row: the exit status, and what the program writes.
 
+ghost use Rattle.mothra_app.specs.Answer.{IsTask};
+ghost use Rattle.mothra_app.specs.Commands.{mothra_promise};
+
 use anyhow::Result;
-use equivalents_app::answer_inquiry;
-use mothra_app::{AppFault, Status, Watched, serve};
+use equivalents_app::Equivalents;
+use mothra_app::{AppFault, Mothra, Status, Watched, serve};
 use std::alloc::AllocError;
+use std::fmt::Write;
 use std::str::from_utf8;
 use std::sync::Wait;
 use std::thread::Threads;
@@ -25,31 +29,39 @@ fn call(
     job: &str,
     written: &mut Vec<u8>,
 ) -> Result<Status, AppFault> {
-    let words: Vec<&str> = words.split_whitespace().collect(rt.alloc())?;
+    let alloc = rt.alloc();
+    let words: Vec<&str> = words.split_whitespace().collect(alloc)?;
     let mut reader = Watched::new(job.as_bytes());
     let mut writer = Watched::new(written);
     match words.first() {
-        Some(&"equivalents") => answer_inquiry(rt.alloc(), &words, &mut reader, &mut writer),
-        _ => serve(rt, &words, &mut reader, &mut writer),
+        Some(&"equivalents") => serve(
+            &Equivalents { alloc },
+            &|inquiry, job| equivalents_app::report(alloc, inquiry, job),
+            &words,
+            &mut reader,
+            &mut writer,
+        ),
+        _ => serve(
+            &Mothra { alloc },
+            &|request, job|
+                requires { IsTask mothra_promise request.now job }
+            { mothra_app::report(rt, request, job) },
+            &words,
+            &mut reader,
+            &mut writer,
+        ),
     }
-}
-
-/// The blanks in front of a line of an answer; the first line, at place 0, has one.
-fn front(place: usize) -> &'static str {
-    if place == 0 { " " } else { "   " }
 }
 
 /// Adds a text to the answers. Its first line stands behind the exit status, each other line behind blanks.
 fn push_text(answers: &mut String, status: char, text: &str) -> Result<(), AllocError> {
-    answers.push(status)?;
-    answers.push(':')?;
+    write!(answers, "{status}:")?;
     if text.is_empty() {
         answers.push('\n')?;
     }
     for (place, line) in text.lines().enumerate() {
-        answers.push_str(front(place))?;
-        answers.push_str(line)?;
-        answers.push('\n')?;
+        let front = if place == 0 { " " } else { "   " };
+        writeln!(answers, "{front}{line}")?;
     }
     Ok(())
 }

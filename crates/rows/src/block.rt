@@ -4,6 +4,7 @@ use crate::answer::push_answer;
 use crate::job::job_of;
 use anyhow::Result;
 use std::alloc::{AllocError, Global};
+use std::fmt::Write;
 use std::sync::Wait;
 use std::thread::Threads;
 
@@ -36,7 +37,7 @@ impl<'a> Block<'a> {
         if !answers.is_empty() {
             answers.push('\n')?;
         }
-        push_line(answers, title)
+        writeln!(answers, "{title}")
     }
 
     /// Adds a line to the source, or begins another source with it.
@@ -58,7 +59,7 @@ impl<'a> Block<'a> {
         answers: &mut String,
     ) -> Result<()> {
         self.has_row = true;
-        push_line(answers, line)?;
+        writeln!(answers, "{line}")?;
         push_answer(rt, self.words, job, answers)
     }
 
@@ -77,7 +78,7 @@ impl<'a> Block<'a> {
             self.push_row(rt, line, text.strip_prefix(' ').unwrap_or(text), answers)?;
         } else if let Some(words) = line.strip_prefix('$') {
             self.words = words;
-            push_line(answers, line)?;
+            writeln!(answers, "{line}")?;
         } else if line.starts_with('#') {
             self.begin(line, answers)?;
         } else if !line.is_empty() {
@@ -85,10 +86,4 @@ impl<'a> Block<'a> {
         }
         Ok(())
     }
-}
-
-fn push_line(answers: &mut String, line: &str) -> Result<(), AllocError> {
-    answers.push_str(line)?;
-    answers.push('\n')?;
-    Ok(())
 }

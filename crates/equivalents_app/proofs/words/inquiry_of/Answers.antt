@@ -1,29 +1,23 @@
-use Rattle.equivalents_app.proofs.Common.{rules, map, err_from_is_err_and}
-use Rattle.equivalents_app.proofs.Asking.{asks, meaning_taken, is_bounded, is_fault, is_inquiry, some_inquiry}
+use Rattle.equivalents_app.proofs.Common.{ap, sym, rules, map, refl, ◌∙◌, equivalents_line, options_meaning}
+use Rattle.mothra_cli.proofs.Meanings.{is_fault}
+use Rattle.mothra_cli.specs.declared.request.WordsFault.TheVariants.{BadOperatorList}
+use Rattle.equivalents_app.proofs.Asking.{asked, every, steps, is_some}
 use Rattle.equivalents_app.proofs.words.inquiry_of.Goals as goal
 
 pub unwrap-requires : goal.unwrap-requires
-unwrap-requires g c =
-    some_inquiry _ c.in_ok-inquiry.inquiry
-    (asks (map g.S.AsStr.text c.args.words.now) _ c.in_ok-matches.ensures.kinds c.in_ok-matches.ensures.matches)
-    c.in_ok-inquiry.ensures
+unwrap-requires g c = let m = c.in_ok-matches.ensures in is_some _ _ (c.number_at.ensures ∙ (every (map g.S.AsStr.text c.args.words.now) _ m.kinds m.matches).1)
 
-pub returns-in_err-inquiry-clause-fault : goal.returns-in_err-inquiry-clause-fault
-returns-in_err-inquiry-clause-fault g c =
-    let p = err_from_is_err_and c.from_residual-in_err-inquiry.result c.from_residual-in_err-inquiry.ensures.1 in
-    rw (p.1, p.2)
-    (is_fault (map g.S.AsStr.text c.args.words.now) _
-    (meaning_taken (map g.S.AsStr.text c.args.words.now) _ c.in_ok-matches.ensures.kinds c.in_ok-matches.ensures.matches)
-    c.in_err-inquiry.field-0.0 c.in_err-inquiry.ensures)
+pub unwrap-requires-2 : goal.unwrap-requires-2
+unwrap-requires-2 g c = let m = c.in_ok-matches.ensures in is_some _ _ (c.number_at-2.ensures ∙ (steps (map g.S.AsStr.text c.args.words.now) _ m.kinds m.matches).1)
 
-pub returns-clause-inquiry : goal.returns-clause-inquiry
-returns-clause-inquiry g c =
-    is_inquiry (map g.S.AsStr.text c.args.words.now) _
-    (meaning_taken (map g.S.AsStr.text c.args.words.now) _ c.in_ok-matches.ensures.kinds c.in_ok-matches.ensures.matches)
-    c.unwrap.result c.in_ok-inquiry.inquiry (search rules) c.in_ok-inquiry.ensures
+pub returns-in_default-clause-fault : goal.returns-in_default-clause-fault
+returns-in_default-clause-fault g c =
+    let m = c.in_ok-matches.ensures in
+    is_fault equivalents_line (map g.S.AsStr.text c.args.words.now) _ m.kinds (ap options_meaning (sym m.matches)) BadOperatorList
+    (rw (← c.in_ok-operators.ensures, c.in_default.is) refl)
 
-pub returns-clause-bounds : goal.returns-clause-bounds
-returns-clause-bounds g c =
-    is_bounded _ c.unwrap.result c.in_ok-inquiry.inquiry
-    (asks (map g.S.AsStr.text c.args.words.now) _ c.in_ok-matches.ensures.kinds c.in_ok-matches.ensures.matches)
-    (search rules) c.in_ok-inquiry.ensures
+pub returns-clause-asked : goal.returns-clause-asked
+returns-clause-asked g c =
+    let words = map g.S.AsStr.text c.args.words.now in
+    let m = c.in_ok-matches.ensures in
+    asked words _ m.kinds m.matches _ (search rules) (search rules) (search rules) (search rules) (search rules)

@@ -1,15 +1,11 @@
-use Rattle.mothra_equivalents.proofs.Common.{ap, ◌∙◌, mutant_of, PlanFields}
-use Rattle.mothra_equivalents.proofs.Proved.{of_ticket}
 use Rattle.mothra_equivalents.proofs.prover.Prover.spare.Goals as goal
+use Rattle.mothra_equivalents.proofs.prover.Prover.spare.Goals.{then-is_none+then-work-eq0, else-is_none}
 
-pub returns-else-is_none-clause-equivalent : goal.returns-else-is_none-clause-equivalent
-returns-else-is_none-clause-equivalent c =
-    of_ticket c.args.self.now c.args.ticket c.in-Some.mutant.now c.in_ok-spare.spare
-    (c.in-Some.ensures.mutant ∙ ap (λ (plan : PlanFields). mutant_of plan c.args.ticket.op c.args.ticket.number) c.self.view_is)
-    c.in_ok-spare.ensures.equivalent
+pub returns-clause-proved : goal.returns-clause-proved
+returns-clause-proved c = rw (← c.number-number.ensures, ← c.in_ok-stmt.ensures.statement, ← c.requires.tours) c.in_ok-spare.ensures
 
-pub returns-in_ok-add_unproved-clause-equivalent : goal.returns-in_ok-add_unproved-clause-equivalent
-returns-in_ok-add_unproved-clause-equivalent c =
-    of_ticket c.args.self.now c.args.ticket c.in-Some.mutant.now c.in_ok-spare.spare
-    (c.in-Some.ensures.mutant ∙ ap (λ (plan : PlanFields). mutant_of plan c.args.ticket.op c.args.ticket.number) c.self.view_is)
-    c.in_ok-spare.ensures.equivalent
+pub returns-clause-tours : goal.returns-clause-tours
+returns-clause-tours c = elim c.if-is_none.branch [
+  | then-is_none+then-work-eq0 w ↦ rw w.self-is
+  | else-is_none w ↦ rw w.self-is
+]

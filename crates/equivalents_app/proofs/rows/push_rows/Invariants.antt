@@ -1,6 +1,0 @@
-use Rattle.equivalents_app.proofs.Common.{◌≡◌, ◌++◌, string_bytes, take, flat_map, row_lines}
-use Rattle.equivalents_app.proofs.rows.push_rows.Given as goal
-
--- what is written are the lines of the rows so far
-abbrev pub invariant-loop-one : goal.invariant-loop-one
-invariant-loop-one l = string_bytes l.text ≡ string_bytes l.fn.text ++ flat_map (row_lines l.every) (take l.one-index l.others)

@@ -1,4 +1,0 @@
-pub mod Words
-pub mod Room
-pub use Words.*
-pub use Room.*
