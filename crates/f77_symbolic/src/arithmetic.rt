@@ -9,9 +9,7 @@ use crate::evaluator::Evaluator;
 use crate::halt::Halt;
 use f77_actions::Arithmetic;
 use f77_actions::number::power;
-use f77_terms::atoms::Function;
-use f77_terms::knowing::know_division;
-use f77_terms::terms::{Term, atom_term, constant_of, constant_term, copy};
+use f77_terms::{Function, Term, atom_term, constant_of, constant_term, copy, know_division};
 use std::alloc::Global;
 use std::cmp::Ordering;
 

@@ -13,14 +13,9 @@ use crate::halt::{Halt, unless_unknown};
 use crate::memory::{Location, Symbolic, Write};
 use crate::sides::{ActiveTurn, Side};
 use f77_facts::assigning::{Slots, assign};
-use f77_facts::entries::Entry;
-use f77_facts::facts::{Fact, filled, set};
-use f77_facts::loops::LoopFact;
-use f77_terms::atoms::Key;
-use f77_terms::items::item_at;
-use f77_terms::paths::settle;
-use f77_terms::ranges::{Range, atom_range, common, term_range};
-use f77_terms::terms::{Term, constant_term};
+use f77_facts::{Entry, Fact, LoopFact, filled, set};
+use f77_terms::ranges::common;
+use f77_terms::{Key, Range, Term, atom_range, constant_term, item_at, settle, term_range};
 use f77_tree::{Kind, Shared};
 use std::alloc::AllocError;
 

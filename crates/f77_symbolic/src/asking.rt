@@ -9,10 +9,7 @@ ghost use Rattle.f77_symbolic.specs.code.{HasItem};
 use crate::evaluator::Evaluator;
 use crate::halt::Halt;
 use f77_actions::{Connective, Relation};
-use f77_terms::bounds::sign_bounds;
-use f77_terms::knowing::is_ranged_off;
-use f77_terms::paths::refuted;
-use f77_terms::terms::{Term, copy};
+use f77_terms::{Term, copy, is_ranged_off, refuted, sign_bounds};
 use std::alloc::AllocError;
 use std::cmp::Ordering;
 

@@ -9,7 +9,7 @@ use f77_check::Checked;
 use f77_equivalence::start::size;
 use f77_equivalence::ways::{goes_on_alike, resolved_in};
 use f77_facts::assigning::Slots;
-use f77_terms::items::item_at;
+use f77_terms::item_at;
 use f77_tree::Shared;
 use std::alloc::{AllocError, Global};
 

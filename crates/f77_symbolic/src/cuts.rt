@@ -13,9 +13,8 @@ use crate::sides::{ActiveTurn, Side, SymbolicTurn};
 use crate::visiting::Visit;
 use f77_actions::{Action, Resolved};
 use f77_code::Place;
-use f77_facts::loops::LoopFact;
-use f77_terms::atoms::Key;
-use f77_terms::items::item_at;
+use f77_facts::LoopFact;
+use f77_terms::{Key, item_at};
 use f77_tree::Shared;
 use std::alloc::{AllocError, Global};
 

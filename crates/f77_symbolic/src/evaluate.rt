@@ -13,7 +13,7 @@ use crate::evaluator::Evaluator;
 use crate::halt::Halt;
 use crate::memory::{Location, Symbolic, Write, fixed};
 use f77_actions::{Condition, Element, Number};
-use f77_terms::terms::{Term, constant_of, constant_term};
+use f77_terms::{Term, constant_of, constant_term};
 use f77_tree::Shared;
 use std::alloc::Global;
 use std::cmp::Ordering;

@@ -7,12 +7,11 @@ ghost use Rattle.f77_symbolic.specs.code.{Extends, Always, AlwaysTells, Expects,
 
 use crate::halt::{Halt, unless_unknown};
 use crate::samples::{Samples, is_in};
-use f77_facts::facts::Fact;
-use f77_terms::atoms::{Function, Key, Table, interned};
-use f77_terms::knowing::{is_ranged_off, know_function};
-use f77_terms::paths::{Path, add_below, add_range, add_unequal, copied_path};
-use f77_terms::ranges::Range;
-use f77_terms::terms::{Term, atom_term, combined, constant_term, copy};
+use f77_facts::Fact;
+use f77_terms::{
+    Function, Key, Path, Range, Table, Term, add_below, add_range, add_unequal, atom_term,
+    combined, constant_term, copied_path, copy, interned, is_ranged_off, know_function,
+};
 use std::alloc::{AllocError, Global};
 use std::cmp::Ordering;
 

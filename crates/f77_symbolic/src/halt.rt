@@ -2,7 +2,7 @@
 
 ghost use Rattle.std.specs.Prelude.{◌≡◌, true, Ok, IfOk, IfSome};
 
-use f77_terms::terms::Term;
+use f77_terms::Term;
 use std::alloc::{AllocError, AllocFailed};
 use std::cmp::Ordering;
 use std::num::TryFromIntError;

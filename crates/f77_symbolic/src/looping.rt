@@ -14,7 +14,7 @@ use crate::memory::{Symbolic, fixed};
 use crate::sides::{Side, Step, SymbolicTurn, come_to, go_on, turn_at};
 use crate::stepping::statement_at;
 use f77_actions::{Action, Resolved};
-use f77_terms::terms::{Term, copy};
+use f77_terms::{Term, copy};
 use f77_tree::Shared;
 
 #[tactic(auto, using(crate::proofs::Extending::extending))]

@@ -11,7 +11,7 @@ use crate::memory::{Location, Symbolic, Write};
 use crate::sides::ActiveTurn;
 use crate::walking::Pair;
 use f77_facts::assigning::Slots;
-use f77_terms::items::item_at;
+use f77_terms::item_at;
 use f77_tree::Shared;
 
 /// The location may be one of these slots, if some are given.

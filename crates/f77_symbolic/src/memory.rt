@@ -9,12 +9,8 @@ ghost use Rattle.f77_symbolic.specs.code.{Extends, Always, GoesOnIfHeld, IsKnown
 
 use crate::evaluator::Evaluator;
 use crate::halt::{Halt, unless_unknown};
-use f77_facts::facts::{Fact, hull_of};
-use f77_terms::atoms::Key;
-use f77_terms::items::item_at;
-use f77_terms::paths::add_range;
-use f77_terms::ranges::{Range, atom_range, is_empty};
-use f77_terms::terms::{Term, constant_term, copy};
+use f77_facts::{Fact, hull_of};
+use f77_terms::{Key, Range, Term, add_range, atom_range, constant_term, copy, is_empty, item_at};
 use f77_tree::{Kind, Shared};
 use std::alloc::{AllocError, Global};
 use std::cmp::Ordering;

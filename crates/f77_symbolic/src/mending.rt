@@ -3,11 +3,7 @@
 
 use crate::evaluator::Evaluator;
 use crate::samples::Sample;
-use f77_terms::atoms::{Function, Key, Table};
-use f77_terms::numbers::common_divisor;
-use f77_terms::paths::Path;
-use f77_terms::ranges::Range;
-use f77_terms::terms::{Part, Term, constant_of};
+use f77_terms::{Function, Key, Part, Path, Range, Table, Term, common_divisor, constant_of};
 use std::alloc::AllocError;
 use std::slice;
 

@@ -5,11 +5,8 @@ ghost use Rattle.std.specs.Prelude.{◌<◌};
 
 use crate::rows::Gap;
 use crate::sides::Side;
-use f77_facts::facts::Fact;
-use f77_terms::atoms::{Function, Key, Table};
-use f77_terms::paths::Path;
-use f77_terms::ranges::Range;
-use f77_terms::terms::Term;
+use f77_facts::Fact;
+use f77_terms::{Function, Key, Path, Range, Table, Term};
 use std::alloc::{AllocError, Global};
 use std::cell::{Cell, Ref, RefCell, RefMut};
 use std::cmp::Ordering;

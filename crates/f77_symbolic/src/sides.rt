@@ -9,7 +9,7 @@ ghost use Rattle.f77_symbolic.specs.code.{GoesTo};
 use crate::memory::{Location, Symbolic, Write, forget};
 use f77_actions::{Jump, Resolved};
 use f77_code::Place;
-use f77_terms::terms::Term;
+use f77_terms::Term;
 use f77_tree::Shared;
 use std::alloc::{AllocError, Global};
 

@@ -12,10 +12,7 @@ use crate::sides::{Side, Step, come_to, go_on, jump};
 use f77_actions::{Action, Condition, Element, Jump, Number, Resolved};
 use f77_code::Place;
 use f77_equivalence::ways::is_executed;
-use f77_terms::bounds::is_refuted;
-use f77_terms::items::item_at;
-use f77_terms::paths::Path;
-use f77_terms::terms::{Term, constant_of, constant_term};
+use f77_terms::{Path, Term, constant_of, constant_term, is_refuted, item_at};
 use f77_tree::Shared;
 
 /// The path expects of 0 that it is not 0, or of a number above 0 that it is at most 0: it holds nowhere, since the

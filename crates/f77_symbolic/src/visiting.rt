@@ -11,10 +11,8 @@ use crate::samples::first_samples;
 use crate::sides::{Side, Step};
 use f77_actions::Resolved;
 use f77_code::Place;
-use f77_facts::entries::{Entry, are_covered};
-use f77_facts::facts::is_inside;
-use f77_terms::atoms::{law_of_atoms, new_table};
-use f77_terms::paths::{Path, new_path};
+use f77_facts::{Entry, are_covered, is_inside};
+use f77_terms::{Path, law_of_atoms, new_path, new_table};
 use f77_tree::Shared;
 use std::alloc::{AllocError, Global};
 
