@@ -43,7 +43,7 @@ unfoldable pub use Rattle.f77_symbolic.specs.{together, FollowsByKeys}
 pub use Rattle.f77_symbolic.specs.code.{StaysOn, Stepped, Answers, ReadsCell, Extends, AreExplored, IsSettled, HoldSameIn, IsReady, IsKnownAt, IsBehindBy}
 pub use Rattle.f77_symbolic.specs.code.{HavePairs, IsSlotOf, FollowsAt, FollowsThere, FollowsVisit, HasItem, IsEndOf, RestsOn, IsWithin}
 pub use Rattle.f77_symbolic.specs.code.{IsDivision, HaveDummies, GoesOnIfHeld, GoesTo, IsExplored, IsMet, IsMetOrExplored}
-pub use Rattle.f77_symbolic.specs.code.{AlwaysTells, ComesToEnd, Follows, GivesWay, IsRoomLeft, IsThere, IsPartOf, Whichever}
+pub use Rattle.f77_symbolic.specs.code.{on_path, AlwaysTells, ComesToEnd, Follows, GivesWay, IsRoomLeft, IsThere, IsPartOf, Whichever}
 pub use Rattle.f77_symbolic.specs.declared.evaluator.Atoms.{Atoms}
 pub use Rattle.f77_symbolic.specs.declared.evaluator.Evaluator.{Evaluator}
 pub use Rattle.f77_symbolic.specs.declared.memory.Location.{Location}

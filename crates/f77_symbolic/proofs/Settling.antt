@@ -1,8 +1,8 @@
 -- How a pair rests on the next one.
-use Rattle.f77_symbolic.proofs.Common.{arith, ◌≡◌, ℕ, zero, suc, Bool, true, false, List, Option, Some, None, refl, sym, subst, ap, ◌∙◌, pos, negsuc, ◌+ℤ◌}
+use Rattle.f77_symbolic.proofs.Common.{arith, ◌≡◌, ℕ, zero, suc, Bool, true, false, List, Option, Some, None, refl, inl, inr, sym, subst, ap, ◌∙◌, pos, negsuc, ◌+ℤ◌}
 use Rattle.f77_symbolic.proofs.Common.{◌≤ℤ◌, ints, Resolved, CheckedFields, Cells, State, Move, Goes, Ends, moved, HoldAlike, IsEnding, Holds, Valuation, Path}
 use Rattle.f77_symbolic.proofs.Common.{Pair, Side, Step, End, together, FollowsByKeys, AreInside, Start, cells_of, state_of, Follows}
-use Rattle.f77_symbolic.proofs.Common.{IsRoomLeft, IsReady, IsSettled, IsThere, IsEndOf, Stepped}
+use Rattle.f77_symbolic.proofs.Common.{IsRoomLeft, IsReady, IsSettled, IsThere, IsEndOf, Stepped, on_path}
 use Rattle.f77_actions.specs.declared.finish.Finish.{Finish}
 use Rattle.f77_actions.specs.declared.finish.Finish.TheVariants.{Returned, Stopped, Failed, StepLimit}
 use Rattle.f77_symbolic.specs.declared.change.Change.{Change}
@@ -73,7 +73,7 @@ module _ (spare : ℕ) (checked : CheckedFields) (change : Change) (start : Star
   -- the program makes a step: both end alike, or it follows from where that leads
   pub own_follows : (pair : Pair) (path : Path) (after : Side) (made : Step) (list : List Resolved) → IsReady checked change → list ≡ change.own.items
       → (IsThere v pair → Stepped start.cells v true path pair.left after made (moved list (state_of start.cells v pair.left)))
-      → ((finish : Finish) → IsEndOf made finish → IsThere v pair → EndsSo finish pair)
+      → ((finish : Finish) → IsEndOf made finish → Holds v path → IsThere v pair → EndsSo finish pair)
       → ((room : ℕ) → IsRoomLeft spare pair.credit room → made ≡ step.Moves → Holds v path → AreInside v after.writes.items
       → AreInside v pair.right.writes.items → FollowsSides false (suc room) after pair.right)
       → Follows spare checked change start v pair
@@ -86,12 +86,26 @@ module _ (spare : ℕ) (checked : CheckedFields) (change : Change) (start : Star
       (λ e wanted ends.
       let at = end_of start.cells v true path pair.left after made e.finish e.cells
       (subst (λ m. Stepped start.cells v true path pair.left after made m) ends it) (λ own. wanted) in
-      let other = alike e.finish at.0 there in
+      let other = alike e.finish at.0 at.1 there in
       (record { finish = e.finish; cells = other.0 }, other.1, (refl, subst (λ c. HoldAlike checked c other.0) (sym at.2) other.2)))
       (λ b goes.
       let to = subst (λ m. Stepped start.cells v true path pair.left after made m) goes it in
       subst (λ u. FollowsByKeys (together checked change.statements.items spare) false (suc room) u (state_of start.cells v pair.right)) (sym to.3)
       (next room has to.0 to.1 to.2 there.right))
+
+  -- the program ends by its step: it follows if it does where what is assumed of that step holds
+  pub own_assumed : (pair : Pair) (path : Path) (after : Side) (made : Step) (list : List Resolved) → IsReady checked change → list ≡ change.own.items
+      → (IsThere v pair → Stepped start.cells v true path pair.left after made (moved list (state_of start.cells v pair.left)))
+      → (made ≡ step.Moves → ⊥) → Follows spare checked change start v (on_path path pair) → Follows spare checked change start v pair
+  unfolding together FollowsByKeys
+  own_assumed pair path after made list ready same steps ends follows room has there reached zero keys e wanted run = absurd run
+  own_assumed pair path after made list ready same steps ends follows room has there reached (suc n) keys e wanted (inl is) =
+      let now = subst (λ list. Stepped start.cells v true path pair.left after made (moved list (state_of start.cells v pair.left))) (same ∙ ready.own) (steps there) in
+      let at = end_of start.cells v true path pair.left after made e.finish e.cells (subst (λ m. Stepped start.cells v true path pair.left after made m) is now) (λ own. wanted) in
+      follows room has (record { holds = at.1; left = there.left; right = there.right }) reached (suc n) keys e wanted (inl is)
+  own_assumed pair path after made list ready same steps ends follows room has there reached (suc n) keys e wanted (inr (b, goes, run)) =
+      let now = subst (λ list. Stepped start.cells v true path pair.left after made (moved list (state_of start.cells v pair.left))) (same ∙ ready.own) (steps there) in
+      absurd (ends (subst (λ m. Stepped start.cells v true path pair.left after made m) goes now).0)
 
   -- the changed program makes a step
   pub other_moves : (pair next : Pair)

@@ -2,7 +2,7 @@
 
 ghost use Rattle.std.specs.Prelude.{◌≡◌, ◌⊎◌, true, false, is_some, IfNone, IfOk, IfSome};
 ghost use Rattle.f77_symbolic.specs.Prelude.{Holds, Valuation};
-ghost use Rattle.f77_symbolic.specs.code.{Extends, AreSettled, ComesToEnd, GivesWay, RestsOn};
+ghost use Rattle.f77_symbolic.specs.code.{on_path, Extends, AreSettled, ComesToEnd, GivesWay, RestsOn};
 
 use crate::change::Change;
 use crate::evaluator::{Evaluator, add_other_sign};
@@ -10,8 +10,7 @@ use crate::halt::{Halt, told, unless_unknown};
 use crate::sides::{Side, Step, statement_of};
 use f77_actions::{Action, Resolved};
 use f77_code::Place;
-use f77_terms::paths::{Path, add_below, add_equal, copied_path, new_path, settle};
-use f77_terms::terms::Term;
+use f77_terms::{Path, Term, add_below, add_equal, copied_path, new_path, settle};
 use f77_tree::Shared;
 use std::alloc::AllocError;
 use std::cmp::Ordering;
@@ -75,15 +74,20 @@ impl Evaluator {
         mem::replace(&mut self.path, new_path(self.alloc))
     }
 
-    /// The changed program makes a step: how it ends by it, or the pair behind it.
-    fn other_step(&mut self, change: &Change, pair: &Pair) -> Result<(Step, Option<Pair>), Halt>
+    /// The changed program makes a step, where this path holds: how it ends by it, or the pair behind it.
+    fn other_step(
+        &mut self,
+        change: &Change,
+        path: &Path,
+        pair: &Pair,
+    ) -> Result<(Step, Option<Pair>), Halt>
         ensures rests { IfOk result (λ found. is_some found.1 ≡ true
-            → RestsOn self.new.atoms change.now found.1 pair.now) }
+            → RestsOn self.new.atoms change.now found.1 (on_path path.now pair.now)) }
         ensures ends { IfOk result (λ found. is_some found.1 ≡ false
-            → ComesToEnd change.now self.new found.0 pair.now) }
+            → ComesToEnd change.now self.new found.0 (on_path path.now pair.now)) }
         ensures extends { Extends self.old.atoms self.new.atoms }
     {
-        let (step, right) = self.step_from(&pair.path, false, &pair.right, &change.statements)?;
+        let (step, right) = self.step_from(path, false, &pair.right, &change.statements)?;
         if step != Step::Moves {
             return Ok((step, None));
         }
@@ -98,8 +102,8 @@ impl Evaluator {
         Ok((step, Some(next)))
     }
 
-    /// The program makes a step. Where that is its end the changed one makes one more: it ends alike, and the dummy
-    /// arguments hold the same, or goes on.
+    /// The program makes a step. Where that is its end the changed one makes one more, where what is assumed of the
+    /// program's holds: it ends alike, and the dummy arguments hold the same, or goes on.
     fn own_turn(&mut self, change: &Change, pair: &Pair) -> Result<Option<Pair>, Halt>
         ensures rests { IfOk result (λ next. RestsOn self.new.atoms change.now next pair.now) }
         ensures extends { Extends self.old.atoms self.new.atoms }
@@ -115,7 +119,8 @@ impl Evaluator {
             })),
             Step::Faults => Ok(None),
             Step::Returns | Step::Stops => {
-                let (other, next) = self.other_step(change, pair)?;
+                let path = self.taken_path();
+                let (other, next) = self.other_step(change, &path, pair)?;
                 if next.is_some() {
                     return Ok(next);
                 }
@@ -131,7 +136,7 @@ impl Evaluator {
         ensures rests { IfOk result (λ next. RestsOn self.new.atoms change.now next pair.now) }
         ensures extends { Extends self.old.atoms self.new.atoms }
     {
-        let (_end, next) = self.other_step(change, pair)?;
+        let (_end, next) = self.other_step(change, &pair.path, pair)?;
         if next.is_some() {
             return Ok(next);
         }

@@ -3,6 +3,7 @@
 use Rattle.std.specs.Prelude.{◌≡◌, ◌≤◌, ◌+ℤ◌, ◌≤ℤ◌, ℕ, ℤ, pos, All, IfSome, List, Option, Some}
 use Rattle.f77_symbolic.specs.Prelude.{Finish, CheckedFields, IsChecked, Ends, moved, AgreeBut, PassAlike, Holds}
 use Rattle.f77_symbolic.specs.Prelude.{Valuation, Change, Atoms, Evaluator, Pair, Step}
+use Rattle.f77_terms.specs.declared.paths.Path.{Path}
 use Rattle.f77_symbolic.specs.{together, FollowsByKeys, Interprets, AreInside, Start, cells_of, state_of}
 use Rattle.f77_symbolic.specs.code.Memory.{HaveDummies}
 use Rattle.f77_symbolic.specs.code.Sides.{IsEndOf}
@@ -14,6 +15,10 @@ pub record IsReady (checked : CheckedFields) (change : Change) : Type 0 where
   pub agree : AgreeBut change.place checked.statements change.statements.items
   pub pass : PassAlike checked.statements change.statements.items change.place
   pub dummies : HaveDummies checked change.dummies.items
+
+-- the pair where this path holds
+abbrev pub on_path : Path → Pair → Pair
+on_path path pair = record { path = path; left = pair.left; right = pair.right; credit = pair.credit; fresh = pair.fresh }
 
 -- the path holds, and what was written to is inside
 pub record IsThere (v : Valuation) (pair : Pair) : Type 0 where
