@@ -30,13 +30,14 @@ use std::marker::Model;
 const FACTS: u64 = 16;
 
 /// For each visit to the statement of this number the pair in which the changed program is to follow the program from
-/// there.
-fn pairs_at(alloc: Global, visits: &[Visit], place: usize) -> Result<Vec<Pair>, AllocError>
+/// there. None is made where no work is left.
+fn pairs_at(alloc: Global, visits: &[Visit], place: usize, work: u64) -> Result<Vec<Pair>, Halt>
     ensures { IfOk result (λ pairs. HavePairs place pairs.items visits.now) }
 {
     let mut pairs = Vec::new(alloc);
     for visit in visits {
         if statement_of(visit.side.place) == place {
+            unless_unknown(work > 0)?;
             pairs.push(Pair {
                 path: copied_path(&visit.path)?,
                 left: visit.side.clone()?,
@@ -80,7 +81,7 @@ impl Visits {
         ensures { IfOk result (λ behind. IsBehindBy change.now behind self.now) }
     {
         law_of_atoms(&self.known.atoms.table);
-        let todo = pairs_at(alloc, &self.walk.list, change.place)?;
+        let todo = pairs_at(alloc, &self.walk.list, change.place, *work)?;
         if todo.len() == 0 {
             return Ok(0);
         }

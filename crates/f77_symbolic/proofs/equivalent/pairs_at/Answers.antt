@@ -3,7 +3,7 @@ use Rattle.f77_symbolic.proofs.Common.{IsSettled, FollowsAt, FollowsVisit, HaveP
 use Rattle.std.specs.declared.alloc.Global.{Global}
 use Rattle.f77_symbolic.proofs.Settling.{follows_so, side_same}
 use Rattle.f77_symbolic.proofs.equivalent.pairs_at.Goals as goal
-use Rattle.f77_symbolic.proofs.equivalent.pairs_at.Goals.{then-statement_of-place+in_ok-copied_path+in_ok-clone+in_ok-clone-2+in_ok-push, else-statement_of-place}
+use Rattle.f77_symbolic.proofs.equivalent.pairs_at.Goals.{then-statement_of-place+in_ok-unless_unknown+in_ok-copied_path+in_ok-clone+in_ok-clone-2+in_ok-push, else-statement_of-place}
 
 pub loop-visit-preserved : goal.loop-visit-preserved
 loop-visit-preserved c spare checked change start v all =
@@ -12,7 +12,7 @@ loop-visit-preserved c spare checked change start v all =
     let room : pos spare ≡ (pos spare +ℤ pos 0) = omega (arith, ints) in
     let it : All (IsSettled spare checked change start v) c.loop-visit.pairs.items × Claim c.visit-item.result =
     elim c.if-statement_of-place.branch [
-      | then-statement_of-place+in_ok-copied_path+in_ok-clone+in_ok-clone-2+in_ok-push w ↦
+      | then-statement_of-place+in_ok-unless_unknown+in_ok-copied_path+in_ok-clone+in_ok-clone-2+in_ok-push w ↦
           let last = All-pop (IsSettled spare checked change start v) c.if-statement_of-place.pairs.items c.loop-visit.pairs.items (Some _)
           (ap (λ (list : Vec Pair Global). list.items) w.pairs-is ∙ w.in_ok-push.ensures.items) all in (
             last.0,
