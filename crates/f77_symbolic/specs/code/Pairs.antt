@@ -18,7 +18,8 @@ pub record IsReady (checked : CheckedFields) (change : Change) : Type 0 where
 
 -- the pair where this path holds
 abbrev pub on_path : Path → Pair → Pair
-on_path path pair = record { path = path; left = pair.left; right = pair.right; credit = pair.credit; fresh = pair.fresh }
+on_path path pair =
+    record { path = path; left = pair.left; right = pair.right; credit = pair.credit; fresh = pair.fresh }
 
 -- the path holds, and what was written to is inside
 pub record IsThere (v : Valuation) (pair : Pair) : Type 0 where

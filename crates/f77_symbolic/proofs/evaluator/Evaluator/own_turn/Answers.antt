@@ -1,4 +1,5 @@
-use Rattle.f77_symbolic.proofs.Common.{arith, rules, refl, suc, sym, subst, inl, inr, ◌≡◌, ◌∙◌, ◌+ℤ◌, false, pos, SFits, of_z, to_z, w64, ints, Holds, IsEndOf, cells_of, ◌⊎◌, Follows, IsThere, Step, on_path}
+use Rattle.f77_symbolic.proofs.Common.{arith, rules, refl, suc, sym, subst, inl, inr, ◌≡◌, ◌∙◌, ◌+ℤ◌, false, pos, SFits, of_z, to_z, w64, ints, Holds}
+use Rattle.f77_symbolic.proofs.Common.{IsEndOf, cells_of, ◌⊎◌, Follows, IsThere, Step, on_path}
 use Rattle.f77_symbolic.specs.declared.sides.Step.TheVariants as step
 use Rattle.f77_symbolic.proofs.HeldAlike.{hold_alike}
 use Rattle.f77_symbolic.proofs.Settling.{follows_so, own_assumed, own_follows, side_same}
@@ -23,7 +24,8 @@ returns-in_ok-show_same-in-Returns-clause-rests c spare checked start v ready is
     (λ finish end holds there.
     let on : IsThere v (on_path c.taken_path-path.result pair) = record { holds = subst (Holds v) (sym c.taken_path-path.ensures.path) holds; left = there.left; right = there.right } in
     let at = c.in_ok-other-in-Returns.ensures.ends (sym c.is_some.ensures ∙ c.if-is_some.false) start v finish before on (subst (λ m. IsEndOf m finish) (sym same) end) in
-    let alike = (rw (c.deref-in-Returns-2.ensures.value, c.deref-in-Returns.ensures, c.deref-in-Returns-4.ensures.value, c.deref-in-Returns-3.ensures, c.deref-in-Returns-5.ensures.value) at c.in_ok-show_same-in-Returns.ensures.same) start v is at.0 in
+    let met = rw (c.deref-in-Returns-2.ensures.value, c.deref-in-Returns.ensures) at c.in_ok-show_same-in-Returns.ensures.same in
+    let alike = (rw (c.deref-in-Returns-4.ensures.value, c.deref-in-Returns-3.ensures, c.deref-in-Returns-5.ensures.value) at met) start v is at.0 in
     (other, at.1, hold_alike checked c.args.change.now.dummies.items own other ready.formed ready.dummies (alike there.left there.right)))
     (λ room has moves. absurd (no_move c.in_ok-step.step c.in-Returns.is moves))
 
