@@ -83,7 +83,7 @@ pub fn is_refuted_with(
     if is_impossible(alloc, work, &mut ranges, bounds, &mut levels)? {
         return Ok(true);
     }
-    if splits == 0 {
+    if splits == 0 || *work == 0 {
         return Ok(false);
     }
     let assignment = Assignment::of(alloc, &ranges, &levels)?;
