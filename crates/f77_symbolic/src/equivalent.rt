@@ -17,6 +17,7 @@ use crate::rows::Rows;
 use crate::sides::statement_of;
 use crate::visiting::{Visit, Visits, tour_of};
 use crate::walking::Pair;
+use crate::work::Work;
 use f77_actions::Resolved;
 use f77_check::Checked;
 use f77_equivalence::start::holds_start;
@@ -31,13 +32,13 @@ const FACTS: u64 = 16;
 
 /// For each visit to the statement of this number the pair in which the changed program is to follow the program from
 /// there. None is made where no work is left.
-fn pairs_at(alloc: Global, visits: &[Visit], place: usize, work: u64) -> Result<Vec<Pair>, Halt>
+fn pairs_at(alloc: Global, visits: &[Visit], place: usize, work: &Work) -> Result<Vec<Pair>, Halt>
     ensures { IfOk result (λ pairs. HavePairs place pairs.items visits.now) }
 {
     let mut pairs = Vec::new(alloc);
     for visit in visits {
         if statement_of(visit.side.place) == place {
-            unless_unknown(work > 0)?;
+            unless_unknown(work.left > work.kept)?;
             pairs.push(Pair {
                 path: copied_path(&visit.path)?,
                 left: visit.side.clone()?,
@@ -75,20 +76,21 @@ impl Visits {
         &self,
         alloc: Global,
         change: &Change,
-        work: &mut u64,
+        work: &mut Work,
         rows: &mut Rows,
     ) -> Result<u64, Halt>
         ensures { IfOk result (λ behind. IsBehindBy change.now behind self.now) }
     {
         law_of_atoms(&self.known.atoms.table);
-        let todo = pairs_at(alloc, &self.walk.list, change.place, *work)?;
+        let todo = pairs_at(alloc, &self.walk.list, change.place, work)?;
         if todo.len() == 0 {
             return Ok(0);
         }
-        *work = work.saturating_sub(self.known.atoms.facts.len() as u64 / FACTS);
+        let copying = self.known.atoms.facts.len() as u64 / FACTS;
+        work.left = work.left.saturating_sub(copying);
         let mut evaluator = self.evaluator(alloc)?;
         let followed = evaluator.follow(change, todo, work);
-        *work = work.saturating_sub(evaluator.samples.spent.take());
+        work.left = work.left.saturating_sub(evaluator.samples.spent.take());
         if followed.is_err() {
             rows.add_all(&evaluator.samples, &change.dummies)?;
         }
@@ -104,7 +106,7 @@ fn most_behind(
     alloc: Global,
     tour: &[Visits],
     change: &Change,
-    work: &mut u64,
+    work: &mut Work,
     rows: &mut Rows,
 ) -> Result<u64, Halt>
     ensures { IfOk result (λ behind. (checked : CheckedFields) → IsTourOf checked tour.now
@@ -123,7 +125,7 @@ fn fewest_behind(
     alloc: Global,
     tours: &[Vec<Visits>],
     change: &Change,
-    work: &mut u64,
+    work: &mut Work,
     rows: &mut Rows,
 ) -> Result<Option<u64>, AllocError>
     ensures { IfOk result (λ found. IfSome found (λ behind. (checked : CheckedFields)
@@ -197,14 +199,14 @@ impl<'a> Tours<'a> {
 
     /// By how many steps a limit is to be larger for the program with this statement in the place of the one of this
     /// number, from 1, to come to what the program comes to wherever that returns or stops. None where that was not
-    /// shown by the work that is left; none is left where it did not do. Then there may be rows.
+    /// shown by the work that may be taken: no more is left than is kept where it did not do. Then there may be rows.
     pub fn steps_to_spare(
         &self,
         alloc: Global,
         number: usize,
         stmt: &Stmt,
         resolved: &Shared<Resolved>,
-        work: &mut u64,
+        work: &mut Work,
         rows: &mut Rows,
     ) -> Result<Option<u64>, AllocError>
         requires fits { Fits (map line_of self.now.program) number (statement_of stmt.now) }

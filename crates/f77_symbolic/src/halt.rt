@@ -1,6 +1,7 @@
 //! Why an evaluation or a walk goes no further.
 
 ghost use Rattle.std.specs.Prelude.{◌≡◌, true, Ok, IfOk, IfSome};
+ghost use Rattle.f77_symbolic.specs.declared.halt.Halt.TheVariants as halt;
 
 use f77_terms::Term;
 use std::alloc::{AllocError, AllocFailed};
@@ -19,13 +20,17 @@ pub enum Halt {
 }
 
 impl From<AllocError> for Halt {
-    fn from(_e: AllocError) -> Halt {
+    fn from(_e: AllocError) -> Halt
+        ensures { result ≡ halt.Memory }
+    {
         Halt::Memory
     }
 }
 
 impl<T: Drop> From<AllocFailed<T>> for Halt {
-    fn from(_e: AllocFailed<T>) -> Halt {
+    fn from(_e: AllocFailed<T>) -> Halt
+        ensures { result ≡ halt.Memory }
+    {
         Halt::Memory
     }
 }

@@ -28,3 +28,4 @@ mod sides;
 mod stepping;
 pub mod visiting;
 mod walking;
+pub mod work;

@@ -8,6 +8,7 @@ use crate::change::Change;
 use crate::evaluator::{Evaluator, add_other_sign};
 use crate::halt::{Halt, told, unless_unknown};
 use crate::sides::{Side, Step, statement_of};
+use crate::work::Work;
 use f77_actions::{Action, Resolved};
 use f77_code::Place;
 use f77_terms::{Path, Term, add_below, add_equal, copied_path, new_path, settle};
@@ -217,24 +218,25 @@ impl Evaluator {
         }
     }
 
-    /// The pairs are settled, by the work that is left at most. Gives by how many steps at most the changed program was
+    /// The pairs are settled, by the work that may be taken. Gives by how many steps at most the changed program was
     /// behind.
     pub(crate) fn follow(
         &mut self,
         change: &Change,
         mut todo: Vec<Pair>,
-        work: &mut u64,
+        work: &mut Work,
     ) -> Result<u64, Halt>
         ensures settled { IfOk result (λ behind. AreSettled self.new.atoms change.now behind todo.items) }
         ensures extends { Extends self.old.atoms self.new.atoms }
     {
         let mut behind = 0;
-        while *work > 0 {
+        while work.left > work.kept {
             let Some(pair) = todo.pop() else {
                 return Ok(behind);
             };
             behind = behind.max(pair.credit.min(0).unsigned_abs());
-            *work = work.saturating_sub(self.samples.cost(&pair.path, &pair.left));
+            let cost = self.samples.cost(&pair.path, &pair.left);
+            work.left = work.left.saturating_sub(cost);
             let (own, other) = (
                 statement_of(pair.left.place),
                 statement_of(pair.right.place),

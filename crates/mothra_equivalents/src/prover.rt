@@ -11,6 +11,7 @@ use f77_check::Checked;
 use f77_finder::finding::entries_of;
 use f77_symbolic::equivalent::Tours;
 use f77_symbolic::rows::Rows;
+use f77_symbolic::work::Work;
 use mothra_ops::Mutant;
 use std::alloc::{AllocError, Global};
 
@@ -21,12 +22,12 @@ const TOUR: u64 = 2_000_000;
 const FROM_START: u64 = 100_000;
 
 /// So much all mutants of a plan may take.
-const BUDGET: u64 = 12_000_000;
+const BUDGET: u64 = 20_000_000;
 
 /// So much a mutant may take at least, and at most; and so many times its share of what is left.
 const FEWEST: u64 = 2_000;
 
-const MOST: u64 = 25_000;
+const MOST: u64 = 40_000;
 
 const SHARES: u64 = 5;
 
@@ -98,8 +99,11 @@ impl<'a> Prover<'a> {
         let stmt = mutant.statement(checked)?;
         let resolved = checked.resolved(number, &stmt)?;
         let share = (self.left / self.asked.max(1)).saturating_mul(SHARES);
-        let most = share.max(FEWEST).min(MOST).min(self.left);
-        let mut work = most;
+        let most = share.max(FEWEST).min(MOST);
+        let mut work = Work {
+            left: self.left,
+            kept: self.left.saturating_sub(most),
+        };
         let spare = self.tours.steps_to_spare(
             self.alloc,
             number,
@@ -108,8 +112,8 @@ impl<'a> Prover<'a> {
             &mut work,
             &mut self.rows,
         )?;
-        self.left = self.left.saturating_sub(most.saturating_sub(work));
-        if spare.is_none() && work == 0 {
+        self.left = work.left;
+        if spare.is_none() && work.left <= work.kept {
             self.unfinished = self.unfinished.saturating_add(1);
         }
         Ok(spare)

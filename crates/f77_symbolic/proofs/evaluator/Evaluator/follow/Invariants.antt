@@ -11,4 +11,4 @@ invariant-loop-work l = record {
 }
 
 abbrev pub decreases-loop-work : goal.decreases-loop-work
-decreases-loop-work l = l.work
+decreases-loop-work l = l.work.left
