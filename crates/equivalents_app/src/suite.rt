@@ -37,6 +37,9 @@ pub(crate) fn room_of(
 /// The mutants of the bench that a test kills: of these nothing is asked, since a run costs less than a proof.
 pub(crate) fn killed_on(alloc: Global, bench: &Bench) -> Result<IndexSet<Ticket>, AllocError> {
     let mut killed = IndexSet::new(alloc);
+    if bench.tests().is_empty() {
+        return Ok(killed);
+    }
     let mut verdicts = Verdicts::of(alloc, bench)?;
     for ticket in bench.plan().tickets(alloc)? {
         // A mutant of the plan is refused for want of memory alone.

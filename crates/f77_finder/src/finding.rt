@@ -15,10 +15,13 @@ const LOOKS: usize = 128;
 /// So much work the walks from all entries may take.
 const WORK: u64 = 4_000_000;
 
-/// The cuts to which control comes from the start. None where they are not found soon enough.
+/// The cuts to which control comes from the start. None where it can come to none, or they are not found soon enough.
 fn cuts_reached(alloc: Global, checked: &Checked) -> Result<Option<Vec<Reached>>, AllocError> {
     let statements = checked.statements();
     let cuts = cuts_of(alloc, statements, checked.start().entry, true)?;
+    if cuts.len() == 1 {
+        return Ok(None);
+    }
     let thresholds = thresholds_of(alloc, checked)?;
     let mut list = Vec::new(alloc);
     reach(&mut list, starting_entry(alloc, checked)?, &thresholds)?;
@@ -38,8 +41,8 @@ fn cuts_reached(alloc: Global, checked: &Checked) -> Result<Option<Vec<Reached>>
 }
 
 /// What is known where a run of the program starts and of each cut to which control comes from there: an entry for each
-/// cut, or that of the start alone where the search would take too long. Nothing is claimed of them: they are to be
-/// checked.
+/// cut, or that of the start alone where control comes to no cut or the search would take too long. Nothing is claimed
+/// of them: they are to be checked.
 pub fn entries_of(alloc: Global, checked: &Checked) -> Result<Vec<Entry>, AllocError> {
     match cuts_reached(alloc, checked)? {
         Some(list) => list.into_iter().map(|reached| reached.entry).collect(alloc),

@@ -64,7 +64,8 @@ fn add_comings(
     Ok(())
 }
 
-/// The place where runs start, and behind it, where they are asked for, each to which control comes on more ways.
+/// The place where runs start, and behind it, where they are asked for, each to which control comes on more ways: that
+/// one again where control comes back to it.
 pub fn cuts_of(
     alloc: Global,
     statements: &[Shared<Resolved>],
@@ -78,7 +79,7 @@ pub fn cuts_of(
     for i in 0..statements.len() {
         add_comings(&mut comings, statements, i, &statements[i].action)?;
     }
-    let is_join = |i: &usize| *i != entry && comings.iter().filter(|to| *to == i).count() > 1;
+    let is_join = |i: &usize| comings.iter().filter(|to| *to == i).count() > 1;
     let mut places = vec![in alloc; Place::Execute(entry)]?;
     if joins {
         places.extend((0..statements.len()).filter(is_join).map(Place::Execute))?;

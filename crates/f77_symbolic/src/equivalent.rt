@@ -27,9 +27,6 @@ use f77_tree::{Shared, Stmt};
 use std::alloc::{AllocError, Global};
 use std::marker::Model;
 
-/// To copy so many facts, and what samples hold of them, is a unit of work.
-const FACTS: u64 = 16;
-
 /// For each visit to the statement of this number the pair in which the changed program is to follow the program from
 /// there. None is made where no work is left.
 fn pairs_at(alloc: Global, visits: &[Visit], place: usize, work: &Work) -> Result<Vec<Pair>, Halt>
@@ -38,7 +35,7 @@ fn pairs_at(alloc: Global, visits: &[Visit], place: usize, work: &Work) -> Resul
     let mut pairs = Vec::new(alloc);
     for visit in visits {
         if statement_of(visit.side.place) == place {
-            unless_unknown(work.left > work.kept)?;
+            unless_unknown(work.is_left())?;
             pairs.push(Pair {
                 path: copied_path(&visit.path)?,
                 left: visit.side.clone()?,
@@ -86,8 +83,7 @@ impl Visits {
         if todo.len() == 0 {
             return Ok(0);
         }
-        let copying = self.known.atoms.facts.len() as u64 / FACTS;
-        work.left = work.left.saturating_sub(copying);
+        work.left = work.left.saturating_sub(self.known.samples.cost_to_copy()?);
         let mut evaluator = self.evaluator(alloc)?;
         let followed = evaluator.follow(change, todo, work);
         work.left = work.left.saturating_sub(evaluator.samples.spent.take());
@@ -167,7 +163,8 @@ impl<'a> Model for Tours<'a> {
 
 impl<'a> Tours<'a> {
     /// The tours of a program from these entries, where they say what is known where runs start: by so much work from
-    /// all cuts at most, and by so much from the start alone. `seeks` says whether rows will be asked for.
+    /// all cuts at most, and, where control may come to one, by so much from the start alone. `seeks` says whether
+    /// rows will be asked for.
     pub fn of(
         alloc: Global,
         checked: &'a Checked,
@@ -183,8 +180,11 @@ impl<'a> Tours<'a> {
             return Ok(Tours { checked, list });
         }
         let statements = checked.statements();
+        let entry = checked.start().entry;
+        let is_straight = cuts_of(alloc, statements, entry, true)?.len() == 1;
+        let from_start = if is_straight { 0 } else { from_start };
         for (joins, work) in [(true, work), (false, from_start)] {
-            let cuts = cuts_of(alloc, statements, checked.start().entry, joins)?;
+            let cuts = cuts_of(alloc, statements, entry, joins)?;
             if let Some(tour) = told(tour_of(alloc, statements, &cuts, entries, work, seeks))? {
                 list.push(tour)?;
             }

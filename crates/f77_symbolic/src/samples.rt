@@ -20,6 +20,9 @@ const LEAST_COST: u64 = 4;
 /// To copy what is known of the DOs of so many statements costs one unit.
 const STATEMENTS: u64 = 12;
 
+/// To copy so many numbers of samples costs one unit.
+const NUMBERS: usize = 512;
+
 /// To compare so many pairs of writes costs one unit.
 const WRITES: u64 = 64;
 
@@ -49,6 +52,16 @@ pub(crate) fn is_in(number: Option<i64>, range: Range) -> bool {
 }
 
 impl Sample {
+    /// The sample in memory of its own, on no path.
+    fn copied(&self) -> Result<Sample, AllocError> {
+        let alloc = *self.held.allocator();
+        Ok(Sample {
+            held: Vec::from_slice(alloc, &self.held)?,
+            values: Vec::from_slice(alloc, &self.values)?,
+            is_on_path: false,
+        })
+    }
+
     /// The value of a term.
     pub(crate) fn value(&self, term: &Term) -> Option<i64> {
         term.parts.iter().try_fold(term.constant, |sum, part| {
@@ -164,9 +177,20 @@ impl Samples {
 
     /// The samples in memory of their own, none of them on a path.
     pub(crate) fn copied(&self) -> Result<Samples, AllocError> {
-        let mut list = self.list()?.clone()?;
-        list.iter_mut().for_each(|sample| sample.is_on_path = false);
-        Ok(Samples::of(list, self.seeks))
+        let list = self.list()?;
+        let mut copies = Vec::with_capacity(*list.allocator(), list.len())?;
+        for sample in list.iter() {
+            copies.push(sample.copied()?)?;
+        }
+        Ok(Samples::of(copies, self.seeks))
+    }
+
+    /// What it costs to copy them: each has as many numbers as the first.
+    pub(crate) fn cost_to_copy(&self) -> Result<u64, AllocError> {
+        let list = self.list()?;
+        let numbers = |it: &Sample| it.held.len().saturating_add(it.values.len());
+        let each = list.first().map_or(0, numbers);
+        Ok((list.len().saturating_mul(each) / NUMBERS) as u64)
     }
 
     /// All of them. No other use of them is under way.

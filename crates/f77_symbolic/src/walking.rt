@@ -230,7 +230,7 @@ impl Evaluator {
         ensures extends { Extends self.old.atoms self.new.atoms }
     {
         let mut behind = 0;
-        while work.left > work.kept {
+        while work.is_left() {
             let Some(pair) = todo.pop() else {
                 return Ok(behind);
             };

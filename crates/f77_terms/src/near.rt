@@ -40,14 +40,14 @@ impl Marks {
         Ok(())
     }
 
-    /// Marks the atoms of what is near on the path.
+    /// Marks the atoms of what is near on the path, from its end: what is made of others comes after them.
     fn spread(&mut self, path: &Path) -> Result<(), AllocError> {
-        for term in path.below.iter().chain(&path.unequal) {
+        for term in path.below.iter().chain(&path.unequal).rev() {
             if self.is_near(term) {
                 self.mark(from_ref(term))?;
             }
         }
-        for choice in &path.choices {
+        for choice in path.choices.iter().rev() {
             if self.is_choice_near(choice) {
                 self.mark(&choice.first)?;
                 self.mark(&choice.second)?;

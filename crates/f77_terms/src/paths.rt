@@ -12,6 +12,9 @@ use crate::terms::{Term, copied_terms, copy};
 use f77_tree::Shared;
 use std::alloc::{AllocError, Global};
 
+/// To copy so many terms and choices of a path takes as much work as a bound.
+const COPIES: usize = 8;
+
 /// So many times a case is split at most.
 const MOST_SPLITS: usize = 24;
 
@@ -32,12 +35,15 @@ pub struct Path {
 }
 
 /// Where the path holds, not all of these terms are at most 0. Where there are none it is shown that it holds nowhere.
-/// It is false too where the work that is left, of which it takes, does not do: a unit is a bound that is looked at.
+/// It is false too where the work that is left, of which it takes, does not do: a unit is a bound that is looked at,
+/// and what takes as long.
 pub fn refuted(work: &mut u64, path: &Path, extra: &[Term]) -> Result<bool, AllocError>
     ensures { IfOk result
         (λ yes. yes ≡ true → (v : Valuation) → Holds v path.now → ¬ (AreBelow v extra.now)) }
 {
     let alloc = *path.below.allocator();
+    let copied = path.below.len().saturating_add(path.choices.len());
+    *work = work.saturating_sub((copied / COPIES) as u64);
     let near = path_near(path, extra)?;
     let bounds = joint_bounds(alloc, &near.below, extra)?;
     is_refuted_with(alloc, work, &near, &near.known, &bounds, 0, MOST_SPLITS)

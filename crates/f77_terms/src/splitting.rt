@@ -13,6 +13,9 @@ use f77_tree::Shared;
 use std::alloc::{AllocError, Global};
 use std::cmp::Ordering;
 
+/// To look at the ranges of so many atoms takes as much work as a bound.
+const ATOMS: usize = 16;
+
 /// So often each bound narrows the ranges of atoms.
 const MOST_ROUNDS: usize = 6;
 
@@ -32,7 +35,8 @@ fn is_impossible(
     if *work == 0 {
         return Ok(false);
     }
-    *work = work.saturating_sub(bounds.len() as u64);
+    let taken = bounds.len().saturating_add(ranges.len() / ATOMS);
+    *work = work.saturating_sub(taken as u64);
     for _ in 0..MOST_ROUNDS {
         let is_new = narrow_all(ranges, bounds);
         if is_ruled_out(ranges, bounds) {

@@ -15,21 +15,23 @@ use f77_symbolic::work::Work;
 use mothra_ops::Mutant;
 use std::alloc::{AllocError, Global};
 
-/// So much work the walks of the program alone may take from all cuts. A unit takes about a millionth of a second.
+/// So much work the walks of the program alone may take from all cuts. A unit takes at most half a microsecond.
 const TOUR: u64 = 2_000_000;
 
 /// So much the walk of the program alone may take from its start, past all cuts.
 const FROM_START: u64 = 100_000;
 
-/// So much all mutants of a plan may take.
-const BUDGET: u64 = 20_000_000;
+/// So much all mutants of a plan may take, and so much of it each takes that is only made.
+const BUDGET: u64 = 16_000_000;
+
+const MADE: u64 = 7;
 
 /// So much a mutant may take at least, and at most; and so many times its share of what is left.
 const FEWEST: u64 = 2_000;
 
-const MOST: u64 = 40_000;
+const MOST: u64 = 45_000;
 
-const SHARES: u64 = 5;
+const SHARES: u64 = 6;
 
 /// So many rows are tried for a mutant at most.
 const ROWS: usize = 240;
@@ -61,9 +63,10 @@ impl<'a> Prover<'a> {
     {
         let entries = entries_of(alloc, checked)?;
         let tours = Tours::of(alloc, checked, &entries, TOUR, FROM_START, seeks)?;
+        let left = BUDGET.saturating_sub(asked.saturating_mul(MADE));
         Ok(Prover {
             alloc,
-            left: if tours.is_empty() { 0 } else { BUDGET },
+            left: if tours.is_empty() { 0 } else { left },
             tours,
             asked,
             rows: Rows::new(alloc, if seeks { ROWS } else { 0 }),
@@ -113,7 +116,7 @@ impl<'a> Prover<'a> {
             &mut self.rows,
         )?;
         self.left = work.left;
-        if spare.is_none() && work.left <= work.kept {
+        if spare.is_none() && !work.is_left() {
             self.unfinished = self.unfinished.saturating_add(1);
         }
         Ok(spare)

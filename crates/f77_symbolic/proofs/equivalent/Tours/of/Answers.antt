@@ -12,7 +12,7 @@ loop-joins-preserved c =
     let entries = c.args.entries.now in
     let places = c.in_ok-cuts.cuts.items in
     let Toured = λ (tour : Vec Visits Global). IsTourOf checked tour.items in
-    elim c.match-branch-4.branch [
+    elim c.match-branch-5.branch [
       | in-Some+in_ok-push w ↦
           let tour = w.in-Some.tour in
           let answer : c.tour_of.result ≡ Ok tour = rw w.in-Some.is at c.in_ok-tour.ensures in
