@@ -28,14 +28,21 @@ use std::alloc::{AllocError, Global};
 use std::marker::Model;
 
 /// For each visit to the statement of this number the pair in which the changed program is to follow the program from
-/// there. None is made where no work is left.
-fn pairs_at(alloc: Global, visits: &[Visit], place: usize, work: &Work) -> Result<Vec<Pair>, Halt>
+/// there. Each takes of the work, and none is made where none is left.
+fn pairs_at(
+    alloc: Global,
+    visits: &[Visit],
+    place: usize,
+    work: &mut Work,
+) -> Result<Vec<Pair>, Halt>
     ensures { IfOk result (λ pairs. HavePairs place pairs.items visits.now) }
 {
     let mut pairs = Vec::new(alloc);
     for visit in visits {
         if statement_of(visit.side.place) == place {
             unless_unknown(work.is_left())?;
+            let cost = visit.path.cost_to_copy().saturating_add(1);
+            work.left = work.left.saturating_sub(cost);
             pairs.push(Pair {
                 path: copied_path(&visit.path)?,
                 left: visit.side.clone()?,
@@ -162,9 +169,9 @@ impl<'a> Model for Tours<'a> {
 }
 
 impl<'a> Tours<'a> {
-    /// The tours of a program from these entries, where they say what is known where runs start: by so much work from
-    /// all cuts at most, and, where control may come to one, by so much from the start alone. `seeks` says whether
-    /// rows will be asked for.
+    /// The tours of a program from these entries, where they say what is known where runs start: by so much `work` from
+    /// all cuts at most, and by so much `from_start` from the start alone. Where that is the only entry there is one
+    /// tour, from there, by so much `work`. `seeks` says whether rows will be asked for.
     pub fn of(
         alloc: Global,
         checked: &'a Checked,
@@ -181,9 +188,14 @@ impl<'a> Tours<'a> {
         }
         let statements = checked.statements();
         let entry = checked.start().entry;
-        let is_straight = cuts_of(alloc, statements, entry, true)?.len() == 1;
-        let from_start = if is_straight { 0 } else { from_start };
-        for (joins, work) in [(true, work), (false, from_start)] {
+        let both = [(true, work), (false, from_start)];
+        let alone = [(false, work)];
+        let ways = if entries.len() == 1 {
+            &alone[..]
+        } else {
+            &both[..]
+        };
+        for (joins, work) in ways.iter().copied() {
             let cuts = cuts_of(alloc, statements, entry, joins)?;
             if let Some(tour) = told(tour_of(alloc, statements, &cuts, entries, work, seeks))? {
                 list.push(tour)?;

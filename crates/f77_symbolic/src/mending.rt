@@ -141,7 +141,7 @@ impl Evaluator {
         let fits = |sample: &&Sample| sample.is_on_path == are_any;
         for sample in list.iter().rev().filter(fits).take(tries) {
             for way in 0..ways {
-                let mut sample = sample.clone()?;
+                let mut sample = sample.copied()?;
                 if self.mend(&mut sample, bounds, way)? {
                     return Ok(Some(sample));
                 }

@@ -27,7 +27,7 @@ const NUMBERS: usize = 512;
 const WRITES: u64 = 64;
 
 /// The numbers of slots, and the value of each atom, if it has one.
-#[derive(Clone, Drop)]
+#[derive(Drop)]
 pub struct Sample {
     pub held: Vec<i64>,
     pub values: Vec<Option<i64>>,
@@ -53,7 +53,7 @@ pub(crate) fn is_in(number: Option<i64>, range: Range) -> bool {
 
 impl Sample {
     /// The sample in memory of its own, on no path.
-    fn copied(&self) -> Result<Sample, AllocError> {
+    pub(crate) fn copied(&self) -> Result<Sample, AllocError> {
         let alloc = *self.held.allocator();
         Ok(Sample {
             held: Vec::from_slice(alloc, &self.held)?,

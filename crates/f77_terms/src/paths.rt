@@ -12,7 +12,7 @@ use crate::terms::{Term, copied_terms, copy};
 use f77_tree::Shared;
 use std::alloc::{AllocError, Global};
 
-/// To copy so many terms and choices of a path takes as much work as a bound.
+/// To copy so many terms and choices of a path takes as much work as a bound; so many ranges count as one of these.
 const COPIES: usize = 8;
 
 /// So many times a case is split at most.
@@ -34,6 +34,16 @@ pub struct Path {
     pub choices: Vec<Shared<Choice>>,
 }
 
+impl Path {
+    /// The work that it takes to copy the path.
+    pub fn cost_to_copy(&self) -> u64 {
+        let ranges = self.known.len() / COPIES;
+        let others = self.unequal.len().saturating_add(self.choices.len());
+        let copied = self.below.len().saturating_add(others);
+        (copied.saturating_add(ranges) / COPIES) as u64
+    }
+}
+
 /// Where the path holds, not all of these terms are at most 0. Where there are none it is shown that it holds nowhere.
 /// It is false too where the work that is left, of which it takes, does not do: a unit is a bound that is looked at,
 /// and what takes as long.
@@ -42,8 +52,7 @@ pub fn refuted(work: &mut u64, path: &Path, extra: &[Term]) -> Result<bool, Allo
         (λ yes. yes ≡ true → (v : Valuation) → Holds v path.now → ¬ (AreBelow v extra.now)) }
 {
     let alloc = *path.below.allocator();
-    let copied = path.below.len().saturating_add(path.choices.len());
-    *work = work.saturating_sub((copied / COPIES) as u64);
+    *work = work.saturating_sub(path.cost_to_copy());
     let near = path_near(path, extra)?;
     let bounds = joint_bounds(alloc, &near.below, extra)?;
     is_refuted_with(alloc, work, &near, &near.known, &bounds, 0, MOST_SPLITS)

@@ -4,7 +4,7 @@ use Rattle.f77_check.specs.declared.start.Start.{Start}
 use Rattle.f77_code.specs.declared.control.Place.TheVariants as place
 use Rattle.f77_equivalence.specs.Start.{HoldsStart}
 use Rattle.f77_symbolic.proofs.equivalent.Tours.of.Goals as goal
-use Rattle.f77_symbolic.proofs.equivalent.Tours.of.Goals.{in-Some+in_ok-push, in_default}
+use Rattle.f77_symbolic.proofs.equivalent.Tours.of.Goals.{in-Some-2+in_ok-push, in_default}
 
 pub loop-joins-preserved : goal.loop-joins-preserved
 loop-joins-preserved c =
@@ -12,10 +12,10 @@ loop-joins-preserved c =
     let entries = c.args.entries.now in
     let places = c.in_ok-cuts.cuts.items in
     let Toured = λ (tour : Vec Visits Global). IsTourOf checked tour.items in
-    elim c.match-branch-5.branch [
-      | in-Some+in_ok-push w ↦
-          let tour = w.in-Some.tour in
-          let answer : c.tour_of.result ≡ Ok tour = rw w.in-Some.is at c.in_ok-tour.ensures in
+    elim c.match-branch-4.branch [
+      | in-Some-2+in_ok-push w ↦
+          let tour = w.in-Some-2.tour in
+          let answer : c.tour_of.result ≡ Ok tour = rw w.in-Some-2.is at c.in_ok-tour.ensures in
           let toured = rw (answer, c.deref.ensures.value, c.statements-statements.ensures.statements) at c.tour_of.ensures in
           let starts : HoldsStart checked entries = search rules in
           let start : list_any (λ other. is_same_place other (place.Execute checked.start.entry)) places ≡ true =
