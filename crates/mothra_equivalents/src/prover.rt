@@ -15,7 +15,7 @@ use f77_symbolic::work::Work;
 use mothra_ops::Mutant;
 use std::alloc::{AllocError, Global};
 
-/// So much work the walks of the program alone may take from all cuts. A unit takes at most half a microsecond.
+/// So much work the walks of the program alone may take from all cuts.
 const TOUR: u64 = 2_000_000;
 
 /// So much the walk of the program alone may take from its start, past all cuts.
